@@ -1,6 +1,7 @@
 pub mod Living
 pub mod Ticks
 pub mod Picked
+pub mod HeldPriorities
 pub mod Ending
 pub mod Whole
 pub mod Keeping

@@ -1,13 +1,14 @@
 -- What was seen of facts last, and the texts that tell it.
-use Rattle.std.proofs.Common.{◌≡◌, ◌∙◌, ◌<◌, ◌≤◌, ◌⊎◌, Bool, List, None, Option, Some, [], ◌∷◌, ap, append-nil, arith, false, inl, inr, length, refl, subst, sym, true, ℕ}
-use Rattle.std.specs.Prelude.{is_some, replicate, slice_index_or, slice_set, ◌/◌}
+use Rattle.std.proofs.Common.{◌≡◌, ◌≢◌, ◌∙◌, ◌<◌, ◌≤◌, ◌⊎◌, Bool, List, None, Option, Some, [], ◌∷◌, ap, append-nil, arith, false, inl, inr, length, refl, subst, sym, true, ℕ}
+use Rattle.std.specs.Prelude.{is_some, replicate, slice_index_or, slice_set, ◌+◌, ◌-◌, ◌/◌, ◌%◌, ◌^◌, ◌==◌}
+use Rattle.std.proofs.lemmas.Nat.Bits.{bit_at_ones}
 use Rattle.std.proofs.lemmas.List.{get_or-replicate, get_or-set_other, get_or-set_same, get_or_past, length-replicate, set_past}
 use Rattle.words_script.specs.declared.decl.Decl.{Decl}
 use Rattle.parts_texts.specs.Texts.{Next}
 use Rattle.rules_facts.specs.Fact.{Fact}
 use Rattle.kernel_lines.specs.Lines.{fact_text, facts_text}
 use Rattle.kernel_lines.specs.Short.{HasShortText, HaveShortTexts}
-use Rattle.kernel_seen.specs.FactSeen.{IsMemoryOf, IsOf, IsOnlyOf, Memory, TellsIfAny, TellsShortly, fact_seen, no_memory}
+use Rattle.kernel_seen.specs.FactSeen.{AreSameElse, IsMemoryOf, IsOf, IsOnlyOf, Memory, TellsIfAny, TellsShortly, fact_seen, may_tell, no_memory}
 use Rattle.kernel_seen.specs.declared.fact_seen.FactSeen.{FactSeen}
 use Rattle.kernel_seen.specs.declared.fact_seen.FactSeen.TheVariants as seen
 use Rattle.kernel_looks.specs.Desk.{HasSpace, Looked, Went, WentOn}
@@ -72,8 +73,20 @@ within i n = grind arith
 apart : (i k : ℕ) → (i ≡ k) ⊎ ((i < k) ⊎ (k < i))
 apart i k = grind arith
 
+unlike : (i k : ℕ) → (i < k) ⊎ (k < i) → i ≢ k
+unlike i k (inl less) e = omega (arith, e, less)
+unlike i k (inr more) e = omega (arith, e, more)
+
 clash : (v : Bool) → v ≡ true → v ≡ false → ⊥
 clash v on off = cc
+
+no_length : (x : ℕ) (xs : List ℕ) → (length (x ∷ xs) == 0) ≡ false
+no_length x xs = grind arith
+
+-- a text that was seen to be empty
+pub none_there : (text : List ℕ) (b : Bool) → b ≡ (length text == 0) → b ≡ true → text ≡ []
+none_there [] b is e = refl
+none_there (x ∷ xs) b is e = absurd (clash b e (is ∙ no_length x xs))
 
 -- what is put is read there, or nothing is
 module _ {X : Type 0} (xs : List X) (at : ℕ) (x d : X) where
@@ -85,20 +98,8 @@ module _ {X : Type 0} (xs : List X) (at : ℕ) (x d : X) where
   put_here (inl place) = inl (get_or-set_same xs at x d place)
   put_here (inr none) = inr (ap (λ (ys : List X). slice_index_or ys at d) (set_past xs at x none) ∙ get_or_past xs at d none)
 
-module _ (bs : List Bool) (c : ℕ) where
-  never_there : (j : ℕ) → (slice_index_or (slice_set bs c true) c true ≡ true) ⊎ (slice_index_or (slice_set bs c true) c true ≡ true) → j ≡ c → slice_index_or (slice_set bs c true) j true ≡ false → ⊥
-  never_there j (inl on) is off = clash (slice_index_or (slice_set bs c true) c true) on (subst (λ (k : ℕ). slice_index_or (slice_set bs c true) k true ≡ false) is off)
-  never_there j (inr on) is off = clash (slice_index_or (slice_set bs c true) c true) on (subst (λ (k : ℕ). slice_index_or (slice_set bs c true) k true ≡ false) is off)
-
-  not_there : (j : ℕ) → j ≡ c → slice_index_or (slice_set bs c true) j true ≡ false → ⊥
-  not_there j is off = never_there j (put_here bs c true true (within c (length bs))) is off
-
-  was_quiet : (j : ℕ) → (j ≡ c) ⊎ ((j < c) ⊎ (c < j)) → slice_index_or (slice_set bs c true) j true ≡ false → slice_index_or bs j true ≡ false
-  was_quiet j (inl is) off = absurd (not_there j is off)
-  was_quiet j (inr other) off = sym (put_other bs c true true j other) ∙ off
-
 module _ (decls : List Decl) (texts : List (List ℕ)) (m n : Memory) (at : ℕ) (key : FactSeen) (text : List ℕ) (place : at < length texts)
-    (facts : n.facts ≡ slice_set m.facts at key) (busy : n.busy ≡ slice_set m.busy (at / 16) true) (h : IsMemoryOf decls texts m) (tells : TellsIfAny decls (fact_seen key) text) where
+    (facts : n.facts ≡ slice_set m.facts at key) (none : may_tell at n.busy ≡ false → text ≡ []) (others : AreSameElse at m.busy n.busy) (h : IsMemoryOf decls texts m) (tells : TellsIfAny decls (fact_seen key) text) where
   told_at : (slice_index_or (slice_set m.facts at key) at seen.Unseen ≡ key) ⊎ (slice_index_or (slice_set m.facts at key) at seen.Unseen ≡ seen.Unseen)
       → TellsIfAny decls (fact_seen (slice_index_or (slice_set m.facts at key) at seen.Unseen)) (slice_index_or (slice_set texts at text) at [])
   told_at (inl is) =
@@ -114,9 +115,10 @@ module _ (decls : List Decl) (texts : List (List ℕ)) (m n : Memory) (at : ℕ)
       subst (λ (k : FactSeen). TellsIfAny decls (fact_seen k) (slice_index_or (slice_set texts at text) i [])) (sym (put_other m.facts at key seen.Unseen i other))
       (subst (TellsIfAny decls (fact_seen (slice_index_or m.facts i seen.Unseen))) (sym (put_other texts at text [] i other)) (h.told i))
 
-  quiet_by : (i : ℕ) → (i ≡ at) ⊎ ((i < at) ⊎ (at < i)) → slice_index_or (slice_set m.busy (at / 16) true) (i / 16) true ≡ false → slice_index_or (slice_set texts at text) i [] ≡ []
-  quiet_by i (inl is) off = absurd (not_there m.busy (at / 16) (i / 16) (ap (λ (j : ℕ). j / 16) is) off)
-  quiet_by i (inr other) off = put_other texts at text [] i other ∙ h.quiet i (was_quiet m.busy (at / 16) (i / 16) (apart (i / 16) (at / 16)) off)
+  quiet_by : (i : ℕ) → (i ≡ at) ⊎ ((i < at) ⊎ (at < i)) → may_tell i n.busy ≡ false → slice_index_or (slice_set texts at text) i [] ≡ []
+  quiet_by i (inl is) off =
+      ap (λ (j : ℕ). slice_index_or (slice_set texts at text) j []) is ∙ get_or-set_same texts at text [] place ∙ none (subst (λ (j : ℕ). may_tell j n.busy ≡ false) is off)
+  quiet_by i (inr other) off = put_other texts at text [] i other ∙ h.quiet i (sym (others i (unlike i at other)) ∙ off)
 
   -- one text more was put, and what is seen of its fact
   pub memory_put : (ts : List (List ℕ)) (s : Memory) → ts ≡ slice_set texts at text → s ≡ n → IsMemoryOf decls ts s
@@ -124,8 +126,21 @@ module _ (decls : List Decl) (texts : List (List ℕ)) (m n : Memory) (at : ℕ)
       subst (λ (xs : List (List ℕ)). IsMemoryOf decls xs s) (sym told)
       (subst (IsMemoryOf decls (slice_set texts at text)) (sym is) (record {
         told = λ i. subst (λ (fs : List FactSeen). TellsIfAny decls (fact_seen (slice_index_or fs i seen.Unseen)) (slice_index_or (slice_set texts at text) i [])) (sym facts) (told_by i (apart i at));
-        quiet = λ i off. quiet_by i (apart i at) (subst (λ (bs : List Bool). slice_index_or bs (i / 16) true ≡ false) busy off);
+        quiet = λ i off. quiet_by i (apart i at) off;
       }))
+
+-- the bit of a fact whose text is empty was cleared
+module _ (decls : List Decl) (texts : List (List ℕ)) (m n : Memory) (at : ℕ) (facts : n.facts ≡ m.facts) (others : AreSameElse at m.busy n.busy) (none : slice_index_or texts at [] ≡ [])
+    (h : IsMemoryOf decls texts m) where
+  still_empty : (i : ℕ) → (i ≡ at) ⊎ ((i < at) ⊎ (at < i)) → may_tell i n.busy ≡ false → slice_index_or texts i [] ≡ []
+  still_empty i (inl is) off = ap (λ (j : ℕ). slice_index_or texts j []) is ∙ none
+  still_empty i (inr other) off = h.quiet i (sym (others i (unlike i at other)) ∙ off)
+
+  pub memory_empty : IsMemoryOf decls texts n
+  memory_empty = record {
+    told = λ i. subst (λ (fs : List FactSeen). TellsIfAny decls (fact_seen (slice_index_or fs i seen.Unseen)) (slice_index_or texts i [])) (sym facts) (h.told i);
+    quiet = λ i off. still_empty i (apart i at) off;
+  }
 
 -- ---- nothing is seen
 
@@ -133,8 +148,11 @@ read_replicate : {X : Type 0} (n i : ℕ) (x : X) → (i < n) ⊎ (n ≤ i) → 
 read_replicate n i x (inl low) = get_or-replicate n i x x low
 read_replicate n i x (inr high) = let long = length-replicate n x in get_or_past (replicate n x) i x (omega (arith, long, high))
 
+all_set : (n i : ℕ) → may_tell i (replicate n (2 ^ 64 - 1)) ≡ true
+all_set n i = rw (read_replicate n (i / 64) (2 ^ 64 - 1) (within (i / 64) n), bit_at_ones 64 (i % 64) (omega arith)) refl
+
 pub memory_none : (decls : List Decl) (texts : List (List ℕ)) (n : ℕ) → IsMemoryOf decls texts (no_memory n)
 memory_none decls texts n = record {
   told = λ i. subst (λ (k : FactSeen). TellsIfAny decls (fact_seen k) (slice_index_or texts i [])) (sym (read_replicate n i seen.Unseen (within i n))) tt;
-  quiet = λ i off. absurd (clash (slice_index_or (replicate n true) (i / 16) true) (read_replicate n (i / 16) true (within (i / 16) n)) off);
+  quiet = λ i off. absurd (clash (may_tell i (no_memory n).busy) (all_set (n / 64 + 1) i) off);
 }

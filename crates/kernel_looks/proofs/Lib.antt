@@ -7,5 +7,5 @@ pub mod QueueLines
 pub mod Runs
 pub mod BareRows
 pub mod Stretches
-pub mod EmptyLists
+pub mod Rows
 pub mod PendingSignals

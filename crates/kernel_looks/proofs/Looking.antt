@@ -343,6 +343,15 @@ went_over a b text place subject told at subjects now full put =
       roomy = λ one space. full ∙ space.fresh;
     }
 
+-- what is seen is noted afterwards
+pub went_seen : (a b c : Desk) (due : List (List ℕ)) → c ≡ record b { seen = c.seen } → Went a b due → Went a c due
+went_seen a b c due is h = subst (λ (x : Desk). Went a x due) (sym is) (record {
+  before = h.before;
+  looked = λ e. let l = h.looked e in record { at = l.at; front = l.front; left = l.left; lines = l.lines; subjects = l.subjects; instant = l.instant };
+  same = λ e. let s = h.same e in record { slots = s.slots; number = s.number; lines = s.lines };
+  roomy = h.roomy;
+})
+
 pub went_same : (a b : Desk) (text : List ℕ) → a.at < length a.told.texts → a.at < length a.subjects.texts → slice_index_or a.told.texts a.at [] ≡ text → b ≡ record a { at = a.at + 1 } → Went a b (text ∷ [])
 went_same a b text place subject same is =
     let looked = looked_same a b text place subject same is in

@@ -1,16 +1,15 @@
 -- A look over facts that tell the same as last.
 use Rattle.std.proofs.Common.{◌≡◌, ◌∙◌, ◌+◌, ◌<◌, ◌≤◌, List, [], ◌∷◌, ap, arith, false, subst, suc, sym, true, zero, ℕ}
-use Rattle.std.specs.Prelude.{is_some, slice_index_or, ◌/◌}
+use Rattle.std.specs.Prelude.{is_some, slice_index_or}
 use Rattle.words_script.specs.declared.decl.Decl.{Decl}
 use Rattle.parts_texts.specs.Texts.{Next}
 use Rattle.rules_facts.specs.Fact.{Fact}
 use Rattle.kernel_lines.specs.Lines.{fact_text}
 use Rattle.kernel_facts.specs.Kept.{kept_below}
-use Rattle.kernel_seen.specs.FactSeen.{IsMemoryOf, IsOf, fact_seen}
+use Rattle.kernel_seen.specs.FactSeen.{IsMemoryOf, IsOf, fact_seen, may_tell}
 use Rattle.kernel_seen.specs.declared.fact_seen.FactSeen.{FactSeen}
 use Rattle.kernel_seen.specs.declared.fact_seen.FactSeen.TheVariants as seen
 use Rattle.kernel_looks.specs.Ahead.{IsStretch, IsToldAt, past}
-use Rattle.kernel_looks.specs.Blocks.{nothings}
 use Rattle.kernel_looks.specs.Desk.{WentOn}
 use Rattle.kernel_looks.specs.Nothing.{TellsNothing}
 use Rattle.kernel_looks.specs.declared.ahead.Stretch.{Stretch}
@@ -35,6 +34,10 @@ past_memory decls d m r is h = subst (λ (x : Desk). IsMemoryOf decls x.told.tex
 -- nothing is told, as it was
 pub still_nothing : (d : Desk) (at : ℕ) (f : Fact) → TellsNothing f → slice_index_or d.told.texts at [] ≡ [] → IsToldAt at d f
 still_nothing d at f none was decls h = record { told = was ∙ sym (none decls); short = nothing_short decls f (none decls) }
+
+-- nothing is told, as the bit shows
+pub still_quiet : (d : Desk) (at : ℕ) (f : Fact) → TellsNothing f → may_tell at d.seen.busy ≡ false → IsToldAt at d f
+still_quiet d at f none off decls h = record { told = h.quiet at off ∙ sym (none decls); short = nothing_short decls f (none decls) }
 
 -- what was seen is told
 pub still_seen : (d : Desk) (at : ℕ) (key : FactSeen) (f : Fact) → slice_index_or d.seen.facts at seen.Unseen ≡ key → is_some (fact_seen key) ≡ true → IsOf f (fact_seen key) → IsToldAt at d f
@@ -63,12 +66,3 @@ skip_facts one d r s f n stretch few is told decls h =
 
 pub stretch_skipped : (d : Desk) (r s : Stretch) (n : ℕ) → IsStretch r d → r.same + n ≤ r.places → s ≡ record r { same = r.same + n } → IsStretch s d
 stretch_skipped d r s n stretch few is = subst (λ (q : Stretch). IsStretch q d) (sym is) (record { within = few; places = stretch.places })
-
--- a quiet block behind a stretch
-pub skip_quiet : (one : Next) (d : Desk) (r s : Stretch) → IsStretch r d → r.same + 16 ≤ r.places → s ≡ record r { same = r.same + 16 }
-    → ((i : ℕ) → i < 16 → slice_index_or d.seen.busy ((d.at + r.same + i) / 16) true ≡ false) → (decls : List Decl) → IsMemoryOf decls d.told.texts d.seen
-    → WentOn one one (past r d) (past s d) (nothings 16)
-skip_quiet one d r s stretch few is quiet decls h =
-    skip_told one d r s (λ (i : ℕ). []) 16 stretch few is
-    (λ k low. let at : d.at + r.same + k ≡ d.at + (r.same + k) = omega arith in
-    h.quiet (d.at + (r.same + k)) (subst (λ (n : ℕ). slice_index_or d.seen.busy (n / 16) true ≡ false) at (quiet k low)))

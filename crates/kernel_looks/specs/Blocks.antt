@@ -1,5 +1,5 @@
 -- A look over many facts that tell nothing. This project's own.
-use Rattle.std.specs.Prelude.{Bool, List, [], false, slice_index_or, true, ℕ, ◌+◌, ◌-◌, ◌/◌, ◌<◌, ◌≡◌, ◌∷◌, ◌++◌, ◌≤◌, ◌⊎◌}
+use Rattle.std.specs.Prelude.{Bool, List, [], false, true, ℕ, ◌+◌, ◌-◌, ◌∷◌, ◌++◌}
 use Rattle.words_script.specs.declared.decl.Decl.{Decl}
 use Rattle.parts_texts.specs.Texts.{Next}
 use Rattle.rules_lists.specs.Lists.{list_of}
@@ -22,10 +22,6 @@ pub record WentKnown (old new : Desk) (due : List (List ℕ)) : Type 0 where
   pub went : (decls : List Decl) → IsMemoryOf decls old.told.texts old.seen → (one : Next) → WentOn one one old new due
   pub seen : (decls : List Decl) → IsMemoryOf decls old.told.texts old.seen → IsMemoryOf decls new.told.texts new.seen
 
--- A block of facts is quiet as it was before, or it was gone over since that number.
-abbrev pub IsNoted : Desk → ℕ → ℕ → Type 0
-IsNoted d start i = (slice_index_or d.seen.busy (i / 16) true ≡ false) ⊎ ((d.is_full ≡ false) × (start ≤ i) × (i < start + 16))
-
 -- the rows of what a thread has about it but for what its server has planned
 abbrev pub is_inner : ThreadRow → Bool
 is_inner thread.Status = false
@@ -46,7 +42,3 @@ list_at lists i = on_list (255 - i) (list_of (255 - i) lists)
 -- so many lists behind some, that of the greatest priority first
 abbrev pub lists_from : List Decl → List (List ℕ) → ℕ → ℕ → List (List ℕ)
 lists_from decls lists from count = kept_below (λ (i : ℕ). list_text decls 255 lists (from + i) ∷ []) count
-
--- where the place of a priority is not taken, its list is empty
-abbrev pub AreEmptyElse : (ℕ → ℕ) → List Bool → List (List ℕ) → Type 0
-AreEmptyElse place taken lists = (p : ℕ) → 1 ≤ p → p ≤ 255 → slice_index_or taken (place p) false ≡ false → list_of p lists ≡ []

@@ -1,5 +1,6 @@
 //! A look goes over facts that tell the same as last at once, as soon as one comes that does not.
-ghost use Rattle.std.specs.Prelude.{ℕ, ◌≡◌, ◌≤◌, ◌<◌, ◌+◌, ◌/◌, false, slice_index_or, true};
+ghost use Rattle.std.specs.Prelude.{ℕ, ◌≡◌, ◌≤◌, ◌<◌, ◌+◌, false};
+ghost use Rattle.kernel_seen.specs.FactSeen.{may_tell};
 ghost use Rattle.kernel_looks.specs.Ahead.{IsStretch};
 
 use crate::desk::Desk;
@@ -39,17 +40,15 @@ impl Stretch {
         self.same += count;
     }
 
-    /// Whether the 16 facts behind it are a block in which nothing was told.
+    /// How many facts behind it told nothing, of so many, as far as that is seen at once.
     #[inline(always)]
-    pub(crate) fn is_quiet_behind(&self, desk: &Desk) -> bool
+    pub(crate) fn quiet_behind(&self, desk: &Desk, most: usize) -> usize
         requires stretch { IsStretch self.now desk.now }
-        ensures places { result ≡ true → self.now.same + 16 ≤ self.now.places }
-        ensures quiet { result ≡ true → (i : ℕ) → i < 16 → slice_index_or desk.now.seen.busy ((desk.now.at + self.now.same + i) / 16) true ≡ false }
+        ensures few { result ≤ most }
+        ensures places { self.now.same + result ≤ self.now.places }
+        ensures quiet { (i : ℕ) → i < result → may_tell (desk.now.at + self.now.same + i) desk.now.seen.busy ≡ false }
     {
-        let at = desk.at + self.same;
-        if self.left() < 16 || at % 16 != 0 {
-            return false;
-        }
-        desk.seen.is_quiet(at / 16)
+        let most = most.min(self.left());
+        desk.seen.quiet_from(desk.at + self.same, most)
     }
 }

@@ -106,7 +106,7 @@ impl Desk {
             return;
         }
         self.told.put(self.at, text);
-        self.seen.put(self.at, seen);
+        self.seen.put(self.at, seen, text.is_empty());
         self.at += 1;
     }
 
@@ -129,6 +129,7 @@ impl Desk {
         ensures seen { (decls : List Decl) → IsMemoryOf decls self.old.told.texts self.old.seen → IsMemoryOf decls self.new.told.texts self.new.seen }
     {
         if self.was_empty() {
+            self.seen.note_empty(self.at);
             self.at += 1;
             return;
         }

@@ -1,5 +1,5 @@
 //! A look at the lists of runnable threads.
-ghost use Rattle.std.specs.Prelude.{ℕ, ◌≡◌, ◌≤◌, ◌<◌, ◌+◌, ◌-◌, ◌/◌, ◌%◌, ◌∷◌, [], false, length, true};
+ghost use Rattle.std.specs.Prelude.{ℕ, ◌≡◌, ◌≤◌, ◌<◌, ◌+◌, ◌∷◌, [], length, true};
 ghost use Rattle.rules_lists.specs.Lists.{list_of};
 ghost use Rattle.rules_facts.specs.Fact.{on_list};
 ghost use Rattle.kernel_lines.specs.Lines.{fact_text};
@@ -7,7 +7,7 @@ ghost use Rattle.kernel_facts.specs.Kept.{lists_kept};
 ghost use Rattle.kernel_seen.specs.FactSeen.{IsMemoryOf};
 ghost use Rattle.kernel_looks.specs.Ahead.{IsStretch, IsToldAt, past};
 ghost use Rattle.kernel_looks.specs.Desk.{WentOn};
-ghost use Rattle.kernel_looks.specs.Blocks.{AreEmptyElse, list_at, lists_from};
+ghost use Rattle.kernel_looks.specs.Blocks.{list_at, lists_from};
 
 use crate::ahead::Stretch;
 use crate::desk::Desk;
@@ -19,24 +19,12 @@ use kernel_state::Parts;
 use parts_texts::NextText;
 use words_numbers::Prio;
 
-// On which lists a thread stands, that of the greatest priority first, and in which groups of 16 of them.
-#[derive(Clone, Copy)]
-struct Taken {
-    lists: [bool; 256],
-    groups: [bool; 16],
-}
-
-// Whether the list of a priority is what was seen last of the fact so many places ahead, or empty as it was.
+// Whether the list of a priority is what was seen last of the fact so many places ahead.
 #[inline(always)]
-fn is_list_ahead(parts: &Parts, p: Prio, is_taken: bool, ahead: usize, desk: &Desk) -> bool
-    requires empty { is_taken ≡ false → list_of p parts.now.machine.lists ≡ [] }
-    requires seen { desk.now.at + ahead < length desk.now.seen.facts }
-    requires told { desk.now.at + ahead < length desk.now.told.texts }
+fn is_list_ahead(parts: &Parts, p: Prio, ahead: usize, desk: &Desk) -> bool
+    requires { desk.now.at + ahead < length desk.now.seen.facts }
     ensures { result ≡ true → IsToldAt (desk.now.at + ahead) desk.now (on_list p (list_of p parts.now.machine.lists)) }
 {
-    if !is_taken {
-        return desk.is_empty_ahead(ahead);
-    }
     is_list(parts, p, desk.seen_ahead(ahead))
 }
 
@@ -56,33 +44,52 @@ fn tell_list(parts: &Parts, decls: &Declared<'_>, p: Prio, next: &mut NextText, 
     desk.keep(next, failed, &see_list(parts, p));
 }
 
-// How many lists from a place on, of so many, are as they were told last. Theirs are the facts behind the stretch.
+// How many lists from a place on are empty, and how many of these, from there on, told nothing last.
+#[derive(Clone, Copy)]
+struct Gap {
+    empty: u8,
+    quiet: u8,
+}
+
+// The lists from a place on that are empty, of so many. Theirs are the facts behind the stretch.
 #[inline(always)]
-fn lists_ahead(
-    parts: &Parts,
-    from: u8,
-    most: u8,
-    taken: &Taken,
-    stretch: &Stretch,
-    desk: &Desk,
-) -> u8
+fn gap_ahead(parts: &Parts, from: u8, most: u8, stretch: &Stretch, desk: &Desk) -> Gap
+    requires some { 0 < most }
     requires within { from + most ≤ 255 }
-    requires taken { AreEmptyElse (λ (p : ℕ). 255 - p) taken.now.lists parts.now.machine.lists }
+    requires stretch { IsStretch stretch.now desk.now }
+    ensures few { (result.quiet ≤ result.empty) × (result.empty ≤ most) }
+    ensures places { stretch.now.same + result.quiet ≤ stretch.now.places }
+    ensures told { (k : ℕ) → k < result.quiet → IsToldAt (desk.now.at + (stretch.now.same + k)) desk.now (list_at parts.now.machine.lists (from + k)) }
+{
+    let empty = parts.empty_lists(prio_of(255 - from), u32::from(most)) as u8;
+    if empty == 0 {
+        return Gap { empty, quiet: 0 };
+    }
+    let quiet = stretch.quiet_behind(desk, usize::from(empty)) as u8;
+    Gap { empty, quiet }
+}
+
+// How many lists from a place on, of so many, are as they were told last: empty ones, and the next one. Theirs are the facts behind the
+// stretch.
+#[inline(always)]
+fn lists_ahead(parts: &Parts, from: u8, most: u8, stretch: &Stretch, desk: &Desk) -> u8
+    requires some { 0 < most }
+    requires within { from + most ≤ 255 }
     requires stretch { IsStretch stretch.now desk.now }
     ensures few { result ≤ most }
     ensures places { stretch.now.same + result ≤ stretch.now.places }
     ensures told { (k : ℕ) → k < result → IsToldAt (desk.now.at + (stretch.now.same + k)) desk.now (list_at parts.now.machine.lists (from + k)) }
 {
-    let most = stretch.left().min(usize::from(most)) as u8;
-    for k in 0..most {
-        let place = from + k;
-        let is_taken = taken.lists[usize::from(place)];
-        let ahead = stretch.same + usize::from(k);
-        if !is_list_ahead(parts, prio_of(255 - place), is_taken, ahead, desk) {
-            return k;
-        }
+    let gap = gap_ahead(parts, from, most, stretch, desk);
+    let quiet = gap.quiet;
+    if quiet < gap.empty || quiet == most || stretch.left() == usize::from(quiet) {
+        return quiet;
     }
-    most
+    let ahead = stretch.same + usize::from(quiet);
+    if is_list_ahead(parts, prio_of(255 - (from + quiet)), ahead, desk) {
+        return quiet + 1;
+    }
+    quiet
 }
 
 // Goes over lists from a place on that are as they were told last, and looks at the one behind them. It answers how many these are, of so
@@ -93,14 +100,12 @@ fn look_at_next_lists(
     decls: &Declared<'_>,
     from: u8,
     most: u8,
-    taken: &Taken,
     stretch: &mut Stretch,
     next: &mut NextText,
     desk: &mut Desk,
 ) -> u8
     requires some { 0 < most }
     requires within { from + most ≤ 255 }
-    requires taken { AreEmptyElse (λ (p : ℕ). 255 - p) taken.now.lists parts.now.machine.lists }
     requires stretch { IsStretch stretch.old desk.old }
     requires memory { IsMemoryOf decls.now desk.old.told.texts desk.old.seen }
     ensures some { 0 < result }
@@ -109,16 +114,15 @@ fn look_at_next_lists(
     ensures kept { WentOn next.old next.new (past stretch.old desk.old) (past stretch.new desk.new) (lists_from decls.now parts.now.machine.lists from result) }
     ensures memory { IsMemoryOf decls.now desk.new.told.texts desk.new.seen }
 {
-    let same = lists_ahead(parts, from, most, taken, stretch, desk);
-    stretch.skip(usize::from(same));
-    if same == most {
-        return most;
+    let same = lists_ahead(parts, from, most, stretch, desk);
+    if same > 0 {
+        stretch.skip(usize::from(same));
+        return same;
     }
     desk.go_on(stretch.same);
-    let place = from + same;
-    tell_list(parts, decls, prio_of(255 - place), next, desk);
+    tell_list(parts, decls, prio_of(255 - from), next, desk);
     *stretch = Stretch::begin(desk);
-    same + 1
+    1
 }
 
 // Looks at so many lists behind some that were looked at, that of the greatest priority first.
@@ -128,13 +132,11 @@ fn look_at_each_list(
     decls: &Declared<'_>,
     from: u8,
     count: u8,
-    taken: &Taken,
     stretch: &mut Stretch,
     next: &mut NextText,
     desk: &mut Desk,
 )
     requires within { from + count ≤ 255 }
-    requires taken { AreEmptyElse (λ (p : ℕ). 255 - p) taken.now.lists parts.now.machine.lists }
     requires stretch { IsStretch stretch.old desk.old }
     requires memory { IsMemoryOf decls.now desk.old.told.texts desk.old.seen }
     ensures stretch { IsStretch stretch.new desk.new }
@@ -145,71 +147,8 @@ fn look_at_each_list(
     while below < count {
         let place = from + below;
         let left = count - below;
-        below += look_at_next_lists(parts, decls, place, left, taken, stretch, next, desk);
+        below += look_at_next_lists(parts, decls, place, left, stretch, next, desk);
     }
-}
-
-// The place of the list of a priority among the lists, that of the greatest first.
-fn place_of(p: Prio) -> usize
-    ensures place { result ≡ 255 - p }
-    ensures few { result < 256 }
-{
-    let p = p.get();
-    usize::from(255 - p)
-}
-
-// On which lists a thread stands.
-fn taken_lists(parts: &Parts) -> Taken
-    ensures lists { AreEmptyElse (λ (p : ℕ). 255 - p) result.lists parts.now.machine.lists }
-    ensures blocks { AreEmptyElse (λ (p : ℕ). (255 - p) / 16) result.groups parts.now.machine.lists }
-{
-    let _head = parts.head();
-    let mut taken = Taken {
-        lists: [false; 256],
-        groups: [false; 16],
-    };
-    for number in 0..parts.count() {
-        if let Some(p) = parts.stands_at(parts.tid(number)) {
-            let place = place_of(p);
-            taken.lists[place] = true;
-            taken.groups[place / 16] = true;
-        }
-    }
-    taken
-}
-
-// Looks at the block of 16 lists from a place on; where no thread stands on any of them, none is looked at by itself.
-#[inline(always)]
-fn look_at_block(
-    parts: &Parts,
-    decls: &Declared<'_>,
-    from: u8,
-    taken: &Taken,
-    stretch: &mut Stretch,
-    next: &mut NextText,
-    desk: &mut Desk,
-)
-    requires within { from + 16 ≤ 255 }
-    requires block { from % 16 ≡ 0 }
-    requires lists { AreEmptyElse (λ (p : ℕ). 255 - p) taken.now.lists parts.now.machine.lists }
-    requires blocks { AreEmptyElse (λ (p : ℕ). (255 - p) / 16) taken.now.groups parts.now.machine.lists }
-    requires stretch { IsStretch stretch.old desk.old }
-    requires memory { IsMemoryOf decls.now desk.old.told.texts desk.old.seen }
-    ensures stretch { IsStretch stretch.new desk.new }
-    ensures kept { WentOn next.old next.new (past stretch.old desk.old) (past stretch.new desk.new) (lists_from decls.now parts.now.machine.lists from 16) }
-    ensures memory { IsMemoryOf decls.now desk.new.told.texts desk.new.seen }
-{
-    if taken.groups[usize::from(from / 16)] {
-        look_at_each_list(parts, decls, from, 16, taken, stretch, next, desk);
-        return;
-    }
-    if stretch.is_quiet_behind(desk) {
-        stretch.skip(16);
-        return;
-    }
-    desk.go_on(stretch.same);
-    desk.go_over_block();
-    *stretch = Stretch::begin(desk);
 }
 
 /// Looks at the lists, that of the greatest priority first.
@@ -224,11 +163,7 @@ pub(crate) fn look_at_lists(
     ensures kept { WentOn next.old next.new desk.old desk.new (lists_kept decls.now parts.now.machine.lists) }
     ensures memory { IsMemoryOf decls.now desk.new.told.texts desk.new.seen }
 {
-    let taken = taken_lists(parts);
     let mut stretch = Stretch::begin(desk);
-    for block in 0..15u8 {
-        look_at_block(parts, decls, 16 * block, &taken, &mut stretch, next, desk);
-    }
-    look_at_each_list(parts, decls, 240, 15, &taken, &mut stretch, next, desk);
+    look_at_each_list(parts, decls, 0, 255, &mut stretch, next, desk);
     desk.go_on(stretch.same);
 }

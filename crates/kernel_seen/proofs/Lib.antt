@@ -1,3 +1,4 @@
 pub mod Runnable
 pub mod KeptLines
 pub mod FewSeen
+pub mod ToldBits

@@ -1,5 +1,6 @@
 -- What is seen of a fact as a value, and the texts that tell it. This project's own.
-use Rattle.std.specs.Prelude.{Bool, List, None, Option, Some, [], false, map, replicate, slice_index_or, true, ℕ, ◌/◌, ◌∷◌, ◌≡◌}
+use Rattle.std.specs.Prelude.{Bool, List, None, Option, Some, [], false, map, replicate, slice_index_or, ℕ, ◌+◌, ◌-◌, ◌/◌, ◌%◌, ◌^◌, ◌∷◌, ◌≡◌, ◌≢◌, ◌==◌}
+use Rattle.std.specs.Int.{bit_at}
 use Rattle.words_script.specs.declared.decl.Decl.{Decl}
 use Rattle.rules_facts.specs.Fact.{Fact, arming_of, cancelability, masked, messages_of, on_list, owner, registration_of, replenishments, semaphore_value}
 use Rattle.rules_facts.specs.Order.{in_order}
@@ -50,16 +51,24 @@ abbrev pub TellsIfAny : List Decl → Option Fact → List ℕ → Type 0
 TellsIfAny decls None text = Unit {0}
 TellsIfAny decls (Some f) text = TellsShortly decls text f
 
--- What is seen of facts by number, and which of the blocks of 16 may have a text that is not empty.
+-- What is seen of facts by number, and which of them may have a text that is not empty, a bit for each.
 pub record Memory : Type 0 where
   pub facts : List FactSeen
-  pub busy : List Bool
+  pub busy : List ℕ
+
+-- whether the bit of a fact is set; that of one without a word is
+abbrev pub may_tell : ℕ → List ℕ → Bool
+may_tell i words = bit_at (slice_index_or words (i / 64) (2 ^ 64 - 1)) (i % 64) == 1
+
+-- the bits of the other facts stay
+abbrev pub AreSameElse : ℕ → List ℕ → List ℕ → Type 0
+AreSameElse i old new = (k : ℕ) → k ≢ i → may_tell k new ≡ may_tell k old
 
 -- nothing is seen so far
 abbrev pub no_memory : ℕ → Memory
-no_memory count = record { facts = replicate count seen.Unseen; busy = replicate count true }
+no_memory count = record { facts = replicate count seen.Unseen; busy = replicate (count / 64 + 1) (2 ^ 64 - 1) }
 
--- each text tells what is seen of its fact, and is empty in a block that is not busy
+-- each text tells what is seen of its fact, and is empty where its bit is clear
 pub record IsMemoryOf (decls : List Decl) (texts : List (List ℕ)) (m : Memory) : Type 0 where
   pub told : (i : ℕ) → TellsIfAny decls (fact_seen (slice_index_or m.facts i seen.Unseen)) (slice_index_or texts i [])
-  pub quiet : (i : ℕ) → slice_index_or m.busy (i / 16) true ≡ false → slice_index_or texts i [] ≡ []
+  pub quiet : (i : ℕ) → may_tell i m.busy ≡ false → slice_index_or texts i [] ≡ []

@@ -1,10 +1,10 @@
 //! What is seen of a fact as a value, so that no text is written of one that is the same as last.
-ghost use Rattle.std.specs.Prelude.{◌≡◌, ◌<◌, ◌^◌, ◌/◌, IfOk, false, is_some, length, slice_index_or, slice_set, true};
+ghost use Rattle.std.specs.Prelude.{ℕ, ◌≡◌, ◌<◌, ◌≤◌, ◌+◌, ◌^◌, IfOk, false, is_some, length, slice_index_or, slice_set, true};
 ghost use Rattle.rules_lists.specs.Lists.{list_of};
 ghost use Rattle.rules_facts.specs.Fact.{on_list, replenishments};
 ghost use Rattle.rules_facts.specs.Threads.{cancelability_fact, mask_fact, pending_fact, thread_fact};
 ghost use Rattle.kernel_lines.specs.Rows.{thread_fact_of};
-ghost use Rattle.kernel_seen.specs.FactSeen.{IsOf, fact_seen, no_memory};
+ghost use Rattle.kernel_seen.specs.FactSeen.{AreSameElse, IsOf, fact_seen, may_tell, no_memory};
 ghost use Rattle.kernel_seen.specs.declared.fact_seen.FactSeen.TheVariants as variant;
 
 use crate::few::{FewMessages, FewThreads, stand_on_list};
@@ -12,6 +12,7 @@ use crate::kept_line::FewWaiters;
 use crate::seen::{Seen, is_as_seen, see};
 use kernel_lines::{LineSort, ThreadRow};
 use kernel_state::Parts;
+use parts_bits::words::{first_bit, with_bit, without_bit};
 use parts_filled::filled;
 use parts_server::Replenish;
 use std::alloc::{AllocError, Global};
@@ -265,11 +266,11 @@ pub fn is_of_thread(parts: &Parts, row: ThreadRow, t: Tid, last: &FactSeen) -> b
 
 // ---- what was seen last
 
-/// What was seen of facts by number, and which of the blocks of 16 may have a text that is not empty.
+/// What was seen of facts by number, and a bit for each, of 64 in a word, that is clear where its text is known to be empty.
 #[derive(Drop)]
 pub struct SeenFacts {
     facts: Vec<FactSeen>,
-    busy: Vec<bool>,
+    busy: Vec<u64>,
 }
 
 impl Model for SeenFacts {
@@ -288,7 +289,7 @@ impl SeenFacts {
     {
         Ok(SeenFacts {
             facts: filled(alloc, count, FactSeen::Unseen)?,
-            busy: filled(alloc, count, true)?,
+            busy: filled(alloc, count / 64 + 1, u64::MAX)?,
         })
     }
 
@@ -307,36 +308,78 @@ impl SeenFacts {
         &self.facts[number]
     }
 
-    /// That is seen of a fact whose text may not be empty.
-    pub fn put(&mut self, number: usize, seen: &FactSeen)
+    /// That is seen of a fact, whose text is empty or not.
+    pub fn put(&mut self, number: usize, seen: &FactSeen, is_empty: bool)
         ensures facts { self.new.facts ≡ slice_set self.old.facts number seen.now }
-        ensures busy { self.new.busy ≡ slice_set self.old.busy (number / 16) true }
+        ensures empty { may_tell number self.new.busy ≡ false → is_empty ≡ true }
+        ensures others { AreSameElse number self.old.busy self.new.busy }
     {
         if number < self.facts.len() {
             self.facts[number] = *seen;
         }
-        if number / 16 < self.busy.len() {
-            self.busy[number / 16] = true;
+        if is_empty {
+            self.note_empty(number);
+        } else {
+            self.note_told(number);
         }
     }
 
-    /// Whether nothing was told in a block.
-    pub fn is_quiet(&self, block: usize) -> bool
-        ensures { result ≡ true → slice_index_or self.now.busy block true ≡ false }
-    {
-        if block >= self.busy.len() {
-            return false;
-        }
-        !self.busy[block]
-    }
-
-    /// Nothing is told in a block.
-    pub fn calm(&mut self, block: usize)
+    // The text of a fact may not be empty.
+    fn note_told(&mut self, number: usize)
         ensures facts { self.new.facts ≡ self.old.facts }
-        ensures busy { self.new.busy ≡ slice_set self.old.busy block false }
+        ensures told { may_tell number self.new.busy ≡ true }
+        ensures others { AreSameElse number self.old.busy self.new.busy }
     {
-        if block < self.busy.len() {
-            self.busy[block] = false;
+        let index = number / 64;
+        if index < self.busy.len() {
+            self.busy[index] = with_bit(self.busy[index], (number % 64) as u32);
         }
+    }
+
+    /// The text of a fact is empty.
+    pub fn note_empty(&mut self, number: usize)
+        ensures facts { self.new.facts ≡ self.old.facts }
+        ensures others { AreSameElse number self.old.busy self.new.busy }
+    {
+        let index = number / 64;
+        if index < self.busy.len() {
+            self.busy[index] = without_bit(self.busy[index], (number % 64) as u32);
+        }
+    }
+
+    // How many facts from a number on told nothing, of so many, as far as the word of its bit shows.
+    #[inline(always)]
+    fn quiet_in_word(&self, number: usize, most: usize) -> usize
+        ensures few { result ≤ most }
+        ensures quiet { (i : ℕ) → i < result → may_tell (number + i) self.now.busy ≡ false }
+    {
+        let index = number / 64;
+        if index >= self.busy.len() {
+            return 0;
+        }
+        let bit = (number % 64) as u32;
+        let end = match first_bit(self.busy[index], bit) {
+            Some(first) => first,
+            None => 64,
+        };
+        most.min((end - bit) as usize)
+    }
+
+    /// How many facts from a number on told nothing, of so many, as far as the bits show.
+    #[inline(always)]
+    pub fn quiet_from(&self, number: usize, most: usize) -> usize
+        requires { number + most < 2 ^ 64 }
+        ensures few { result ≤ most }
+        ensures quiet { (i : ℕ) → i < result → may_tell (number + i) self.now.busy ≡ false }
+    {
+        let mut quiet = 0;
+        while quiet < most {
+            let more = self.quiet_in_word(number + quiet, most - quiet);
+            if more == 0 {
+                return quiet;
+            }
+            quiet += more;
+        }
+        quiet
     }
 }

@@ -1,5 +1,5 @@
 //! What can be read of all parts.
-ghost use Rattle.std.specs.Prelude.{◌≡◌, ◌≤◌, ◌<◌, IfSome, length, slice_get};
+ghost use Rattle.std.specs.Prelude.{ℕ, [], ◌≡◌, ◌≤◌, ◌<◌, ◌-◌, IfSome, length, slice_get};
 ghost use Rattle.std.specs.List.{AllByRecursion};
 ghost use Rattle.rules_lists.specs.Lists.{list_of};
 ghost use Rattle.rules_machine.specs.State as machine;
@@ -43,6 +43,15 @@ impl Parts {
         ensures few { IfSome result (λ _. place < 65536) }
     {
         self.ready.nth(p, place)
+    }
+
+    /// How many lists are empty from that of this priority on, the next lower ones behind it, of so many.
+    pub fn empty_lists(&self, p: Prio, most: u32) -> u32
+        requires { most ≤ p }
+        ensures few { result ≤ most }
+        ensures empty { (k : ℕ) → k < result → list_of (p - k) self.now.machine.lists ≡ [] }
+    {
+        self.ready.empty_from(p, most)
     }
 
     /// How many lists of runnable threads there are.

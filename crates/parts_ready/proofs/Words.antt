@@ -1,10 +1,10 @@
 -- Bits of a word, and of four words.
-use Rattle.std.proofs.Common.{◌≡◌, ℕ, List, inl, inr, true, zero, suc, refl, ◌+◌, ◌-◌, ◌*◌, ◌/◌, ◌%◌, ◌^◌, ◌<◌, ◌≤◌, arith}
+use Rattle.std.proofs.Common.{◌≡◌, ◌∙◌, ◌⊎◌, ℕ, List, inl, inr, true, false, zero, suc, refl, sym, ap, bit_and, ◌+◌, ◌-◌, ◌*◌, ◌/◌, ◌%◌, ◌^◌, ◌<◌, ◌≤◌, arith}
 use Rattle.std.specs.Int.{bit_at}
-use Rattle.std.specs.Prelude.{bit_or, slice_index}
+use Rattle.std.specs.Prelude.{bit_or, min, slice_index}
 use Rattle.std.specs.Int.Count.{count_leading_zeros}
-use Rattle.std.proofs.lemmas.Nat.{le_or_l, le_or_r, leading_top, or_lt, le-div, pow_pos, shr_below}
-use Rattle.std.proofs.lemmas.Nat.Bits.{bit_at-zero, bit_at_above, bit_at_or}
+use Rattle.std.proofs.lemmas.Nat.{le_or_l, le_or_r, leading_top, or_lt, le-div, pow_pos, shr-shr, shr_below}
+use Rattle.std.proofs.lemmas.Nat.Bits.{bit_at-lt, bit_at-zero, bit_at_above, bit_at_and, bit_at_ones, bit_at_ones_above, bit_at_or}
 use Rattle.std.proofs.lemmas.Bool.Decides.{eqb_tells}
 use Rattle.parts_ready.specs.Bits.{is_set, AreClear}
 
@@ -68,3 +68,44 @@ clear_above words i h small none above k from =
       | inl same ↦ (let e : k / 64 ≡ i = omega arith in rw (e, above (k % 64) (omega (arith, e, from))) refl)
       | inr other ↦ (let over : i < k / 64 = omega (arith, other.1, from) in rw (none (k / 64) over, bit_at-zero (k % 64)) refl)
     ]
+
+-- ---- the bits of a word below a place
+
+below_or_not : (h n : ℕ) → (h < n) ⊎ (n ≤ h)
+below_or_not h n = grind arith
+
+mask_bit : (s k : ℕ) → bit_at ((2 ^ 64 - 1) / 2 ^ s) k ≡ bit_at (2 ^ 64 - 1) (s + k)
+mask_bit s k = ap (λ (n : ℕ). n % 2) (shr-shr (2 ^ 64 - 1) s k)
+
+same_min : (a : ℕ) → a < 2 → min a 1 ≡ a
+same_min a few = grind arith
+
+none_min : (a : ℕ) → min a 0 ≡ 0
+none_min a = grind arith
+
+pub low_bit : (word end k : ℕ) → k < end → end ≤ 64 → bit_at (bit_and word ((2 ^ 64 - 1) / 2 ^ (64 - end))) k ≡ bit_at word k
+low_bit word end k low few =
+    bit_at_and word ((2 ^ 64 - 1) / 2 ^ (64 - end)) k
+    ∙ ap (min (bit_at word k)) (mask_bit (64 - end) k ∙ bit_at_ones 64 (64 - end + k) (omega (arith, low, few)))
+    ∙ same_min (bit_at word k) (bit_at-lt word k)
+
+pub high_bit : (word end k : ℕ) → end ≤ k → end ≤ 64 → bit_at (bit_and word ((2 ^ 64 - 1) / 2 ^ (64 - end))) k ≡ 0
+high_bit word end k high few =
+    bit_at_and word ((2 ^ 64 - 1) / 2 ^ (64 - end)) k
+    ∙ ap (min (bit_at word k)) (mask_bit (64 - end) k ∙ bit_at_ones_above 64 (64 - end + k) (omega (arith, high, few)))
+    ∙ none_min (bit_at word k)
+
+-- the highest of them stands below the place
+pub below_place : (word end h : ℕ) → end ≤ 64 → bit_at (bit_and word ((2 ^ 64 - 1) / 2 ^ (64 - end))) h ≡ 1 → h + 1 ≤ end
+below_place word end h few on = by_place (below_or_not h end)
+  where
+    by_place : (h < end) ⊎ (end ≤ h) → h + 1 ≤ end
+    by_place (inl low) = omega (arith, low)
+    by_place (inr high) = absurd (let no : 1 ≡ 0 = sym on ∙ high_bit word end h high few in omega (arith, no))
+
+-- a bit of the word of four that has it
+pub is_clear : (words : List ℕ) (i k : ℕ) → 64 * i ≤ k → k < 64 * i + 64 → bit_at (slice_index words i) (k - 64 * i) ≡ 0 → is_set k words ≡ false
+is_clear words i k low high none =
+    let word : k / 64 ≡ i = omega (arith, low, high) in
+    let bit : k % 64 ≡ k - 64 * i = omega (arith, low, high) in
+    rw (word, bit, none) refl

@@ -1,5 +1,5 @@
 //! A set of small numbers, a bit for each.
-ghost use Rattle.std.specs.Prelude.{◌≡◌, ◌≢◌, ℕ, suc, ◌<◌, false, true, slice_index};
+ghost use Rattle.std.specs.Prelude.{◌≡◌, ◌≢◌, ℕ, suc, ◌<◌, ◌≤◌, false, true, slice_index};
 ghost use Rattle.std.specs.Int.{bit_at};
 ghost use Rattle.parts_ready.specs.Bits.{AreClear, ChangesBit, is_set, NoneIsSet};
 
@@ -47,6 +47,26 @@ impl Bitmap {
         index * 64 + highest_bit(self.words[index as usize])
     }
 
+    /// Behind the highest place below that one that is taken. 0 where none is.
+    #[inline(always)]
+    pub fn end_below(&self, place: u32) -> u32
+        requires { place ≤ 256 }
+        ensures below { result ≤ place }
+        ensures free { (k : ℕ) → result ≤ k → k < place → is_set k self.now.words ≡ false }
+    {
+        let mut end = place;
+        while end > 0 {
+            let index = (end - 1) / 64;
+            let start = 64 * index;
+            let bits = bits_below(self.words[index as usize], end - start);
+            if bits > 0 {
+                return start + bits;
+            }
+            end = start;
+        }
+        0
+    }
+
     // The highest word that has a bit. The lowest where none has one.
     #[inline(always)]
     fn highest_word(&self) -> u32
@@ -92,4 +112,20 @@ fn highest_bit(word: u64) -> u32
     ensures above { (k : ℕ) → result < k → bit_at word k ≡ 0 }
 {
     63 - (word | 1).leading_zeros()
+}
+
+// behind the highest bit of the word below that one that is set, 0 where none is
+fn bits_below(word: u64, end: u32) -> u32
+    requires { end ≤ 64 }
+    ensures below { result ≤ end }
+    ensures clear { (k : ℕ) → result ≤ k → k < end → bit_at word k ≡ 0 }
+{
+    if end == 0 {
+        return 0;
+    }
+    let low = word & (u64::MAX >> (64 - end));
+    if low == 0 {
+        return 0;
+    }
+    highest_bit(low) + 1
 }

@@ -7,7 +7,7 @@
 //! search, and a bitmap of four words finds the highest list that is not empty. No call after `open` takes memory.
 #![tactic(auto)]
 
-ghost use Rattle.std.specs.Prelude.{◌≡◌, ◌<◌, ◌≤◌, if◌then◌else◌, length, slice_get, IfOk, IfSome, Some, false, true};
+ghost use Rattle.std.specs.Prelude.{ℕ, [], ◌≡◌, ◌<◌, ◌≤◌, ◌-◌, if◌then◌else◌, length, slice_get, IfOk, IfSome, Some, false, true};
 ghost use Rattle.parts_links.specs.Links.{follower_on, list_at, on_a_list, stands_in};
 ghost use Rattle.rules_lists.specs.Lists.{AreReadyLists, change_list, empty_lists, list_of, without, to_tail, to_head, highest, prio_of};
 ghost use Rattle.parts_ready.specs.Ends.{at_end, leads, put_at};
@@ -220,6 +220,17 @@ impl Ready {
             Some(node) => Tid::try_new(node as u16),
             None => None,
         }
+    }
+
+    /// How many lists are empty from that of this priority on, the next lower ones behind it, of so many.
+    pub fn empty_from(&self, p: Prio, most: u32) -> u32
+        requires { most ≤ p }
+        ensures few { result ≤ most }
+        ensures empty { (k : ℕ) → k < result → list_of (p - k) self.now.lists ≡ [] }
+    {
+        let place = p.get() as u32;
+        let empty = place - self.occupied.end_below(place);
+        empty.min(most)
     }
 
     /// The priority of the list on which the thread stands. None exactly where it stands on none.

@@ -1,7 +1,7 @@
 use Rattle.std.proofs.Common.{arith, subst, sym, ◌≡◌}
 use Rattle.kernel_looks.specs.Ahead.{past}
 use Rattle.kernel_looks.specs.Desk.{WentOn}
-use Rattle.kernel_looks.proofs.EmptyLists.{lists_behind}
+use Rattle.kernel_looks.proofs.Rows.{lists_behind}
 use Rattle.kernel_looks.proofs.Looking.{went_both, went_none}
 use Rattle.kernel_looks.proofs.look_lists.look_at_each_list.Goals as goal
 

@@ -7,7 +7,7 @@ use Rattle.kernel_facts.specs.Kept.{thread_row_kept}
 use Rattle.kernel_looks.specs.Ahead.{past}
 use Rattle.kernel_looks.specs.Desk.{WentOn}
 use Rattle.kernel_looks.specs.declared.desk.Desk.{Desk}
-use Rattle.kernel_looks.proofs.EmptyLists.{kept_sum}
+use Rattle.kernel_looks.proofs.Rows.{kept_sum}
 use Rattle.kernel_looks.proofs.Looking.{went_both, went_none}
 use Rattle.kernel_looks.proofs.Stretches.{past_memory, past_none}
 use Rattle.kernel_looks.proofs.look_threads.look_at_thread_row.Goals as goal

@@ -1,6 +1,6 @@
 use Rattle.std.proofs.Common.{Bool, ap, false, refl, true, ◌≡◌}
 use Rattle.parts_texts.specs.Slots.{Held}
-use Rattle.kernel_looks.proofs.FactsSeen.{memory_put}
+use Rattle.kernel_looks.proofs.FactsSeen.{memory_put, none_there}
 use Rattle.kernel_looks.proofs.Looking.{has_place, line_fits, space_line, went_nowhere, went_over}
 use Rattle.kernel_looks.proofs.desk.Desk.go_over.Goals as goal
 
@@ -28,4 +28,4 @@ returns-clause-went c =
 pub returns-clause-seen : goal.returns-clause-seen
 returns-clause-seen c decls h tells =
     memory_put decls c.args.self.now.told.texts c.args.self.now.seen c.put-2.new.self c.args.self.now.at c.args.seen.now c.args.text.now (c.has_no_place.ensures.place c.if-has_no_place.false)
-    c.put-2.ensures.facts c.put-2.ensures.busy h tells _ _ (ap (λ (t : Held). t.texts) c.put.ensures) refl
+    c.put-2.ensures.facts (λ off. none_there c.args.text.now c.is_empty.result c.is_empty.ensures (c.put-2.ensures.empty off)) c.put-2.ensures.others h tells _ _ (ap (λ (t : Held). t.texts) c.put.ensures) refl

@@ -1,18 +1,25 @@
-use Rattle.std.proofs.Common.{◌++◌, ◌∙◌, ◌*◌, ◌+◌, ◌≡◌, List, ap, arith, subst, sym, ℕ}
-use Rattle.std.specs.Prelude.{◌-◌, ◌/◌, ◌%◌}
+use Rattle.std.proofs.Common.{◌+◌, ◌≡◌, arith, refl, subst, sym, ℕ}
 use Rattle.kernel_looks.specs.Blocks.{WentKnown, nothings}
-use Rattle.kernel_looks.proofs.Runs.{known_both, nothings_sum}
+use Rattle.kernel_looks.proofs.Runs.{known_both, known_none, nothings_sum}
 use Rattle.kernel_looks.proofs.desk.Desk.go_over_nothings.Goals as goal
+
+pub loop-gone-init : goal.loop-gone-init
+loop-gone-init c = record { few = omega arith; went = known_none _ }
+
+pub loop-gone-preserved : goal.loop-gone-preserved
+loop-gone-preserved c =
+    let step = c.go_over_next-gone.ensures in
+    let gone = c.loop-gone.gone in
+    let more = c.go_over_next-gone.result in
+    let few = step.few in
+    let before = c.loop-gone.invariant.few in
+    record {
+      few = omega (arith, few, before);
+      went = subst (WentKnown c.args.self.now c.go_over_next-gone.new.self) (sym (nothings_sum gone more (gone + more) refl)) (known_both _ _ _ _ _ c.loop-gone.invariant.went step.went);
+    }
 
 pub returns : goal.returns
 returns c =
-    let front = c.to_block-front.result in
-    let few = c.to_block-front.ensures in
-    let left = c.args.count - front in
-    let blocks = 16 * (left / 16) in
-    let rest = left % 16 in
-    let whole : left ≡ blocks + rest = omega arith in
-    let all : c.args.count ≡ front + left = omega (arith, few) in
-    subst (WentKnown c.args.self.now c.go_over_each-2.new.self)
-    (ap (λ (ts : List (List ℕ)). nothings front ++ ts) (sym (nothings_sum blocks rest left whole)) ∙ sym (nothings_sum front left c.args.count all))
-    (known_both _ _ _ _ _ c.go_over_each.ensures (known_both _ _ _ _ _ c.go_over_blocks.ensures c.go_over_each-2.ensures))
+    let few = c.loop-gone.invariant.few in
+    let all : c.loop-gone.gone ≡ c.args.count = omega (arith, few, c.loop-gone-test.false) in
+    subst (λ (n : ℕ). WentKnown c.args.self.now c.loop-gone.self (nothings n)) all c.loop-gone.invariant.went

@@ -1,5 +1,0 @@
-use Rattle.kernel_looks.specs.Blocks.{WentKnown, nothings}
-use Rattle.kernel_looks.proofs.desk.Desk.go_over_rest.Given as goal
-
-abbrev pub invariant-loop : goal.invariant-loop
-invariant-loop l = WentKnown l.initial.self l.self (nothings l.counter)
