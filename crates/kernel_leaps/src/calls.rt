@@ -1,5 +1,6 @@
 //! Calls that have a function of their own, so that the loop of leaps needs no room for what they use.
 ghost use Rattle.script_code.specs.Fetched.{call_of};
+ghost use Rattle.script_code.specs.ShortCall.{call_of_short};
 ghost use Rattle.words_script.specs.declared.call.Call.TheVariants as call;
 ghost use Rattle.rules_machine.specs.Calls.{makes_call};
 ghost use Rattle.rules_machine.specs.Threads.{thread_at};
@@ -13,7 +14,7 @@ use calls_table::make_call;
 use kernel_state::Parts;
 use parts_io::Sink;
 use parts_tracer::Tracer;
-use script_code::CallPlace;
+use script_code::{CallPlace, ShortCall};
 use words_numbers::{ObjId, Tid};
 use words_script::Call;
 
@@ -42,9 +43,25 @@ fn make_any_in_full<K: Sink>(p: &mut Parts, t: Tid, place: CallPlace, out: &mut 
     make_call(p, t, &call, out);
 }
 
-/// `pthread_mutex_lock`.
+/// A short call.
+#[inline(always)]
+pub(crate) fn make_short<K: Sink>(p: &mut Parts, t: Tid, short: ShortCall, out: &mut Tracer<'_, K>)
+    requires caller { CanCall p.old t }
+    requires can { CanMake (objects_in p.old) (thread_at p.old.machine t) (call_of_short short) }
+    ensures { Does K.text K.faults (makes_call (flat_bodies p.old.code) (by t (call_of_short short))) p.old p.new out.old out.new }
+{
+    match short {
+        ShortCall::Yield => make_call(p, t, &Call::Yield, out),
+        ShortCall::Lock(k) => make_lock(p, t, k, out),
+        ShortCall::Unlock(k) => make_call(p, t, &Call::Unlock(k), out),
+        ShortCall::Post(k) => make_call(p, t, &Call::SemPost(k), out),
+        ShortCall::Sleep(n) => make_sleep(p, t, u64::from(n), out),
+    }
+}
+
+// `pthread_mutex_lock`.
 #[inline(never)]
-pub(crate) fn make_lock<K: Sink>(p: &mut Parts, t: Tid, k: ObjId, out: &mut Tracer<'_, K>)
+fn make_lock<K: Sink>(p: &mut Parts, t: Tid, k: ObjId, out: &mut Tracer<'_, K>)
     requires caller { CanCall p.old t }
     requires can { CanMake (objects_in p.old) (thread_at p.old.machine t) (call.Lock k) }
     ensures { Does K.text K.faults (makes_call (flat_bodies p.old.code) (by t (call.Lock k))) p.old p.new out.old out.new }
@@ -52,9 +69,9 @@ pub(crate) fn make_lock<K: Sink>(p: &mut Parts, t: Tid, k: ObjId, out: &mut Trac
     make_call(p, t, &Call::Lock(k), out);
 }
 
-/// `nanosleep`.
+// `nanosleep`.
 #[inline(never)]
-pub(crate) fn make_sleep<K: Sink>(p: &mut Parts, t: Tid, n: u64, out: &mut Tracer<'_, K>)
+fn make_sleep<K: Sink>(p: &mut Parts, t: Tid, n: u64, out: &mut Tracer<'_, K>)
     requires caller { CanCall p.old t }
     requires can { CanMake (objects_in p.old) (thread_at p.old.machine t) (call.Nanosleep n) }
     ensures { Does K.text K.faults (makes_call (flat_bodies p.old.code) (by t (call.Nanosleep n))) p.old p.new out.old out.new }

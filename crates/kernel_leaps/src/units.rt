@@ -16,8 +16,7 @@ ghost use Rattle.kernel_leaps.specs.Completes.{CanComplete};
 ghost use Rattle.kernel_state.specs.Kernel.{after, told};
 ghost use Rattle.kernel_state.specs.Does.{Does};
 
-use crate::calls::{make_any, make_lock, make_sleep};
-use calls_table::make_call;
+use crate::calls::{make_any, make_short};
 use calls_threads::finish;
 use kernel_state::Parts;
 use kernel_threads::Ran;
@@ -27,7 +26,6 @@ use parts_tracer::Tracer;
 use script_code::{CallPlace, Fetched};
 use std::sync::ledger::Ledger;
 use words_numbers::Tid;
-use words_script::Call;
 
 /// A thread runs by itself for at most so many ticks, but one at least, and the instant moves on. Each unit that it passes is a step, and
 /// what it runs of the next is one more.
@@ -47,7 +45,7 @@ pub(crate) fn run_thread<L: Ledger>(p: &mut Parts, t: Tid, near: u64, steps: &mu
     ran
 }
 
-// What a unit does once it is complete. The calls that are made most often are told by the unit itself, so that nothing is looked up.
+// What a unit does once it is complete. A short call is told by the unit itself, so that nothing is looked up.
 #[inline(always)]
 fn complete<K: Sink, const WAY: usize>(
     p: &mut Parts,
@@ -65,11 +63,7 @@ fn complete<K: Sink, const WAY: usize>(
             let CallPlace { body, op } = *place;
             make_any(p, t, CallPlace { body, op }, out)
         }
-        Fetched::Yield => make_call(p, t, &Call::Yield, out),
-        Fetched::Lock(k) => make_lock(p, t, *k, out),
-        Fetched::Unlock(k) => make_call(p, t, &Call::Unlock(*k), out),
-        Fetched::Post(k) => make_call(p, t, &Call::SemPost(*k), out),
-        Fetched::Sleep(n) => make_sleep(p, t, *n, out),
+        Fetched::Short(short) => make_short(p, t, *short, out),
         Fetched::Finish => finish(p, t, out),
     }
 }

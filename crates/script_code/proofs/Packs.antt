@@ -1,5 +1,5 @@
 -- The operations of a body as they are kept.
-use Rattle.std.proofs.Common.{◌≡◌, ℕ, zero, suc, ◌<◌, List, [], ◌∷◌, ◌++◌, length, get_or, slice_get, slice_set, Some, unwrap_or, refl, ap, sym, subst, ◌∙◌, length-append, arith}
+use Rattle.std.proofs.Common.{◌≡◌, ℕ, zero, suc, ◌<◌, List, [], ◌∷◌, ◌++◌, length, get_or, slice_get, slice_set, Some, refl, ap, sym, subst, ◌∙◌, length-append, arith}
 use Rattle.std.proofs.lemmas.List.{get_or_append_left, map_push}
 use Rattle.std.proofs.lemmas.Option.{get_or_from_slice_get, slice_get_read, slice_get_within}
 use Rattle.words_script.specs.declared.call.Call.{Call}
@@ -7,20 +7,18 @@ use Rattle.words_script.specs.declared.call.Call.TheVariants as call
 use Rattle.rules_bodies.specs.declared.op.Op.{Op}
 use Rattle.rules_bodies.specs.declared.op.Op.TheVariants as op
 use Rattle.script_code.specs.declared.ops.Packed.{Packed}
-use Rattle.script_code.specs.declared.ops.Packed.TheVariants.{Run, Make, Yield, Lock, Unlock, Post, Sleep, Set, Add, Take, Test, Begin, Repeat, Again}
+use Rattle.script_code.specs.declared.ops.Packed.TheVariants.{Run, Make, Short, Set, Add, Take, Test, Begin, Repeat, Again}
 use Rattle.rules_bodies.specs.Fetch.{most_skipped}
 use Rattle.script_code.specs.Fetched.{call_at}
-use Rattle.script_code.specs.Packed.{AreIn, IsIn, all_unpacked, short_call, unpacked}
+use Rattle.script_code.specs.Packed.{AreIn, IsIn, all_unpacked, unpacked}
+use Rattle.script_code.specs.ShortCall.{call_of_short}
+use Rattle.script_code.specs.declared.short_call.ShortCall.{ShortCall}
 
 -- an operation that is no call is the same beside all calls
 pub unpacked_alone : (calls : List Call) (p : Packed) → IsIn [] p → unpacked calls p ≡ unpacked [] p
 unpacked_alone calls (Run n) h = refl
 unpacked_alone calls (Make number) h = absurd (omega (arith, h))
-unpacked_alone calls Yield h = refl
-unpacked_alone calls (Lock k) h = refl
-unpacked_alone calls (Unlock k) h = refl
-unpacked_alone calls (Post k) h = refl
-unpacked_alone calls (Sleep n) h = refl
+unpacked_alone calls (Short short) h = refl
 unpacked_alone calls (Set n) h = refl
 unpacked_alone calls (Add n) h = refl
 unpacked_alone calls Take h = refl
@@ -32,11 +30,7 @@ unpacked_alone calls (Again first) h = refl
 pub IsIn_alone : (calls : List Call) (p : Packed) → IsIn [] p → IsIn calls p
 IsIn_alone calls (Run n) h = tt
 IsIn_alone calls (Make number) h = omega (arith, h)
-IsIn_alone calls Yield h = tt
-IsIn_alone calls (Lock k) h = tt
-IsIn_alone calls (Unlock k) h = tt
-IsIn_alone calls (Post k) h = tt
-IsIn_alone calls (Sleep n) h = tt
+IsIn_alone calls (Short short) h = tt
 IsIn_alone calls (Set n) h = tt
 IsIn_alone calls (Add n) h = tt
 IsIn_alone calls Take h = tt
@@ -49,11 +43,7 @@ IsIn_alone calls (Again first) h = tt
 pub most_skipped_alone : (calls : List Call) (p : Packed) → most_skipped (unpacked calls p) ≡ most_skipped (unpacked [] p)
 most_skipped_alone calls (Run n) = refl
 most_skipped_alone calls (Make number) = refl
-most_skipped_alone calls Yield = refl
-most_skipped_alone calls (Lock k) = refl
-most_skipped_alone calls (Unlock k) = refl
-most_skipped_alone calls (Post k) = refl
-most_skipped_alone calls (Sleep n) = refl
+most_skipped_alone calls (Short short) = refl
 most_skipped_alone calls (Set n) = refl
 most_skipped_alone calls (Add n) = refl
 most_skipped_alone calls Take = refl
@@ -66,11 +56,7 @@ most_skipped_alone calls (Again first) = refl
 unpacked_more : (calls : List Call) (made : Call) (p : Packed) → IsIn calls p → unpacked (calls ++ made ∷ []) p ≡ unpacked calls p
 unpacked_more calls made (Run n) h = refl
 unpacked_more calls made (Make number) h = ap op.Make (get_or_append_left calls (made ∷ []) call.Yield number h)
-unpacked_more calls made Yield h = refl
-unpacked_more calls made (Lock k) h = refl
-unpacked_more calls made (Unlock k) h = refl
-unpacked_more calls made (Post k) h = refl
-unpacked_more calls made (Sleep n) h = refl
+unpacked_more calls made (Short short) h = refl
 unpacked_more calls made (Set n) h = refl
 unpacked_more calls made (Add n) h = refl
 unpacked_more calls made Take h = refl
@@ -82,11 +68,7 @@ unpacked_more calls made (Again first) h = refl
 IsIn_more : (calls : List Call) (made : Call) (p : Packed) → IsIn calls p → IsIn (calls ++ made ∷ []) p
 IsIn_more calls made (Run n) h = tt
 IsIn_more calls made (Make number) h = omega (arith, h, length-append calls (made ∷ []))
-IsIn_more calls made Yield h = tt
-IsIn_more calls made (Lock k) h = tt
-IsIn_more calls made (Unlock k) h = tt
-IsIn_more calls made (Post k) h = tt
-IsIn_more calls made (Sleep n) h = tt
+IsIn_more calls made (Short short) h = tt
 IsIn_more calls made (Set n) h = tt
 IsIn_more calls made (Add n) h = tt
 IsIn_more calls made Take h = tt
@@ -221,56 +203,27 @@ call_in_table calls packed ops n number p made view past at e within own =
     sym (get_or_from_slice_get calls number made call.Yield (slice_get_read calls (length calls) number made refl within own))
     ∙ (ap (λ q. call_at (Some (unpacked calls q))) (sym e) ∙ call_of_number calls packed ops n p view past at)
 
--- a call that is no part of the table is that of its operation
-short_call_at : (calls : List Call) (p : Packed) → ((number : ℕ) → p ≡ Make number → ⊥) → unwrap_or (short_call p) call.Yield ≡ call_at (Some (unpacked calls p))
-short_call_at calls (Run n) h = refl
-short_call_at calls (Make number) h = absurd (h number refl)
-short_call_at calls Yield h = refl
-short_call_at calls (Lock k) h = refl
-short_call_at calls (Unlock k) h = refl
-short_call_at calls (Post k) h = refl
-short_call_at calls (Sleep n) h = refl
-short_call_at calls (Set n) h = refl
-short_call_at calls (Add n) h = refl
-short_call_at calls Take h = refl
-short_call_at calls (Test named equal skip) h = refl
-short_call_at calls (Begin times) h = refl
-short_call_at calls (Repeat first) h = refl
-short_call_at calls (Again first) h = refl
+-- a short call is that of its operation
+pub short_of_number : (calls : List Call) (packed : List Packed) (ops : List Op) (n : ℕ) (p : Packed) (short : ShortCall) → all_unpacked calls packed ≡ ops
+    → n < length packed → p ≡ get_or packed n p → p ≡ Short short → call_of_short short ≡ call_at (slice_get ops n)
+short_of_number calls packed ops n p short view past at e =
+    ap (λ q. call_at (Some (unpacked calls q))) (sym e) ∙ call_of_number calls packed ops n p view past at
 
-pub short_of_number : (calls : List Call) (packed : List Packed) (ops : List Op) (n : ℕ) (p : Packed) → all_unpacked calls packed ≡ ops
-    → n < length packed → p ≡ get_or packed n p → ((number : ℕ) → p ≡ Make number → ⊥) → unwrap_or (short_call p) call.Yield ≡ call_at (slice_get ops n)
-short_of_number calls packed ops n p view past at h = short_call_at calls p h ∙ call_of_number calls packed ops n p view past at
+-- an operation that is neither kept makes no call
+no_call_at : (calls : List Call) (p : Packed) → ((number : ℕ) → p ≡ Make number → ⊥) → ((short : ShortCall) → p ≡ Short short → ⊥)
+    → call.Yield ≡ call_at (Some (unpacked calls p))
+no_call_at calls (Run n) h k = refl
+no_call_at calls (Make number) h k = absurd (h number refl)
+no_call_at calls (Short short) h k = absurd (k short refl)
+no_call_at calls (Set n) h k = refl
+no_call_at calls (Add n) h k = refl
+no_call_at calls Take h k = refl
+no_call_at calls (Test named equal skip) h k = refl
+no_call_at calls (Begin times) h k = refl
+no_call_at calls (Repeat first) h k = refl
+no_call_at calls (Again first) h k = refl
 
--- an operation that keeps its call by itself
-pub short_alone : (p : Packed) (made : Call) → short_call p ≡ Some made → IsIn [] p
-short_alone (Run n) made e = tt
-short_alone (Make number) made e = absurd cc
-short_alone Yield made e = tt
-short_alone (Lock k) made e = tt
-short_alone (Unlock k) made e = tt
-short_alone (Post k) made e = tt
-short_alone (Sleep n) made e = tt
-short_alone (Set n) made e = tt
-short_alone (Add n) made e = tt
-short_alone Take made e = tt
-short_alone (Test named equal skip) made e = tt
-short_alone (Begin times) made e = tt
-short_alone (Repeat first) made e = tt
-short_alone (Again first) made e = tt
-
-pub short_unpacked : (p : Packed) (made : Call) → short_call p ≡ Some made → unpacked [] p ≡ op.Make made
-short_unpacked (Run n) made e = absurd cc
-short_unpacked (Make number) made e = absurd cc
-short_unpacked Yield made e = let same : call.Yield ≡ made = cc in ap op.Make same
-short_unpacked (Lock k) made e = let same : call.Lock k ≡ made = cc in ap op.Make same
-short_unpacked (Unlock k) made e = let same : call.Unlock k ≡ made = cc in ap op.Make same
-short_unpacked (Post k) made e = let same : call.SemPost k ≡ made = cc in ap op.Make same
-short_unpacked (Sleep n) made e = let same : call.Nanosleep n ≡ made = cc in ap op.Make same
-short_unpacked (Set n) made e = absurd cc
-short_unpacked (Add n) made e = absurd cc
-short_unpacked Take made e = absurd cc
-short_unpacked (Test named equal skip) made e = absurd cc
-short_unpacked (Begin times) made e = absurd cc
-short_unpacked (Repeat first) made e = absurd cc
-short_unpacked (Again first) made e = absurd cc
+pub none_of_number : (calls : List Call) (packed : List Packed) (ops : List Op) (n : ℕ) (p : Packed) → all_unpacked calls packed ≡ ops
+    → n < length packed → p ≡ get_or packed n p → ((number : ℕ) → p ≡ Make number → ⊥) → ((short : ShortCall) → p ≡ Short short → ⊥)
+    → call.Yield ≡ call_at (slice_get ops n)
+none_of_number calls packed ops n p view past at h k = no_call_at calls p h k ∙ call_of_number calls packed ops n p view past at

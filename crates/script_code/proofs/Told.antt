@@ -60,11 +60,7 @@ module _ (ops : List Op) (calls : List Call) (body n : ℕ) (c new : Cursor) (u 
       → u ≡ unit_in ops (fetched_from body n packed u)
   unit_kept (kept.Run k) at e = unit_told ops (unpacked calls (kept.Run k)) body n c new u at e
   unit_kept (kept.Make number) at e = unit_told ops (unpacked calls (kept.Make number)) body n c new u at e
-  unit_kept kept.Yield at e = sym (ap given e)
-  unit_kept (kept.Lock k) at e = sym (ap given e)
-  unit_kept (kept.Unlock k) at e = sym (ap given e)
-  unit_kept (kept.Post k) at e = sym (ap given e)
-  unit_kept (kept.Sleep k) at e = sym (ap given e)
+  unit_kept (kept.Short short) at e = sym (ap given e)
   unit_kept (kept.Set k) at e = unit_told ops (unpacked calls (kept.Set k)) body n c new u at e
   unit_kept (kept.Add k) at e = unit_told ops (unpacked calls (kept.Add k)) body n c new u at e
   unit_kept kept.Take at e = unit_told ops (unpacked calls kept.Take) body n c new u at e
@@ -137,11 +133,7 @@ found_in_code code body (a.Run n) h = refl
 found_in_code code body (a.Make place) h = ap (λ b. Make (call_at (slice_get (ops_of code b) place.op))) (sym h)
 found_in_code code body a.Jump h = refl
 found_in_code code body a.Finish h = refl
-found_in_code code body a.Yield h = refl
-found_in_code code body (a.Lock k) h = refl
-found_in_code code body (a.Unlock k) h = refl
-found_in_code code body (a.Post k) h = refl
-found_in_code code body (a.Sleep n) h = refl
+found_in_code code body (a.Short short) h = refl
 
 pub fetched_told : (code : NumberedBodies (List Op)) (ops : List Op) (c new : Cursor) (f : Fetched) → ops ≡ ops_of code c.body
     → found_in (drop c.pc ops) 0 c ≡ (new, unit_in ops f) → StandsIn c.body f → fetched code c ≡ (new, unit_of code f)

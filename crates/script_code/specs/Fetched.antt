@@ -9,11 +9,12 @@ use Rattle.rules_bodies.specs.declared.unit.Unit as unit
 use Rattle.rules_bodies.specs.declared.unit.Unit.TheVariants as a
 use Rattle.script_code.specs.declared.fetched.CallPlace.{CallPlace}
 use Rattle.script_code.specs.declared.fetched.Fetched.{Fetched}
-use Rattle.script_code.specs.declared.fetched.Fetched.TheVariants.{Run, Jump, Make, Yield, Lock, Unlock, Post, Sleep, Finish}
+use Rattle.script_code.specs.declared.fetched.Fetched.TheVariants.{Run, Jump, Make, Short, Finish}
 use Rattle.script_code.specs.declared.ops.Packed.{Packed}
 use Rattle.script_code.specs.declared.ops.Packed.TheVariants as kept
 use Rattle.rules_bodies.specs.Fetch.{Effect, Gives, Skips, ops_of}
 use Rattle.rules_bodies.specs.Flat.{NumberedBodies}
+use Rattle.script_code.specs.ShortCall.{call_of_short}
 
 -- the call that an operation makes; `yield` where it makes none
 abbrev pub call_at : Option Op → Call
@@ -30,11 +31,7 @@ unit_in ops (Run n) = a.Run n
 unit_in ops (Make place) = a.Make (call_at (slice_get ops place.op))
 unit_in ops Jump = a.Jump
 unit_in ops Finish = a.Finish
-unit_in ops Yield = a.Make call.Yield
-unit_in ops (Lock k) = a.Make (call.Lock k)
-unit_in ops (Unlock k) = a.Make (call.Unlock k)
-unit_in ops (Post k) = a.Make (call.SemPost k)
-unit_in ops (Sleep n) = a.Make (call.Nanosleep n)
+unit_in ops (Short short) = a.Make (call_of_short short)
 
 -- the unit that was fetched from some body of the code
 abbrev pub unit_of : NumberedBodies (List Op) → Fetched → unit.Unit
@@ -42,11 +39,7 @@ unit_of code (Run n) = a.Run n
 unit_of code (Make place) = a.Make (call_of code place)
 unit_of code Jump = a.Jump
 unit_of code Finish = a.Finish
-unit_of code Yield = a.Make call.Yield
-unit_of code (Lock k) = a.Make (call.Lock k)
-unit_of code (Unlock k) = a.Make (call.Unlock k)
-unit_of code (Post k) = a.Make (call.SemPost k)
-unit_of code (Sleep n) = a.Make (call.Nanosleep n)
+unit_of code (Short short) = a.Make (call_of_short short)
 
 -- a call that was fetched stands in that body
 abbrev pub StandsIn : ℕ → Fetched → Type 0
@@ -62,11 +55,7 @@ fetched_at body number a.Finish = Finish
 
 -- the same of an operation that is kept so: a short call is told by itself
 abbrev pub fetched_from : ℕ → ℕ → Packed → unit.Unit → Fetched
-fetched_from body number kept.Yield u = Yield
-fetched_from body number (kept.Lock k) u = Lock k
-fetched_from body number (kept.Unlock k) u = Unlock k
-fetched_from body number (kept.Post k) u = Post k
-fetched_from body number (kept.Sleep n) u = Sleep n
+fetched_from body number (kept.Short short) u = Short short
 fetched_from body number packed u = fetched_at body number u
 
 -- what the effect of that operation comes to: the cursor behind the operations that are passed over, and the unit that is given, if any

@@ -1,3 +1,4 @@
 pub mod Fetched
 pub mod Packed
 pub mod Ready
+pub mod ShortCall

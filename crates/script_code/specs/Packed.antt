@@ -1,21 +1,18 @@
 -- How the operations of a body are kept: a call in its operation where it is short, and else in a table, by its number there. This project's own.
-use Rattle.std.specs.Prelude.{◌<◌, Option, None, Some, List, [], ◌∷◌, length, map, get_or}
+use Rattle.std.specs.Prelude.{◌<◌, List, [], ◌∷◌, length, map, get_or}
 use Rattle.words_script.specs.declared.call.Call.{Call}
 use Rattle.words_script.specs.declared.call.Call.TheVariants as call
 use Rattle.rules_bodies.specs.declared.op.Op.{Op}
 use Rattle.rules_bodies.specs.declared.op.Op.TheVariants as op
 use Rattle.script_code.specs.declared.ops.Packed.{Packed}
-use Rattle.script_code.specs.declared.ops.Packed.TheVariants.{Run, Make, Yield, Lock, Unlock, Post, Sleep, Set, Add, Take, Test, Begin, Repeat, Again}
+use Rattle.script_code.specs.declared.ops.Packed.TheVariants.{Run, Make, Short, Set, Add, Take, Test, Begin, Repeat, Again}
+use Rattle.script_code.specs.ShortCall.{call_of_short}
 
 -- the operation that is kept so, beside those calls
 abbrev pub unpacked : List Call → Packed → Op
 unpacked calls (Run n) = op.Run n
 unpacked calls (Make number) = op.Make (get_or calls number call.Yield)
-unpacked calls Yield = op.Make call.Yield
-unpacked calls (Lock k) = op.Make (call.Lock k)
-unpacked calls (Unlock k) = op.Make (call.Unlock k)
-unpacked calls (Post k) = op.Make (call.SemPost k)
-unpacked calls (Sleep n) = op.Make (call.Nanosleep n)
+unpacked calls (Short short) = op.Make (call_of_short short)
 unpacked calls (Set n) = op.Set n
 unpacked calls (Add n) = op.Add n
 unpacked calls Take = op.Take
@@ -36,12 +33,3 @@ IsIn calls packed = Unit {0}
 abbrev pub AreIn : List Call → List Packed → Type 0
 AreIn calls [] = Unit {0}
 AreIn calls (p ∷ packed) = IsIn calls p × AreIn calls packed
-
--- the call that an operation keeps by itself
-abbrev pub short_call : Packed → Option Call
-short_call Yield = Some call.Yield
-short_call (Lock k) = Some (call.Lock k)
-short_call (Unlock k) = Some (call.Unlock k)
-short_call (Post k) = Some (call.SemPost k)
-short_call (Sleep n) = Some (call.Nanosleep n)
-short_call packed = None

@@ -165,7 +165,7 @@ impl Code {
         }
     }
 
-    /// The same, where it stands in the table of its body, as all calls do but the shortest. What is told is not copied.
+    /// The same, where it stands in the table of its body, as all calls do but the short ones. What is told is not copied.
     #[inline(always)]
     pub fn call_in_table(&self, place: &CallPlace) -> Option<&Call>
         ensures { IfSome result (λ call. call.now ≡ call_of self.now place.now) }
@@ -242,11 +242,7 @@ pub(crate) fn carry_out(at: &mut Cursor, op: &Packed, number: u32) -> Option<Fet
 {
     match *op {
         Packed::Run(n) => return Some(Fetched::Run(n)),
-        Packed::Yield => return Some(Fetched::Yield),
-        Packed::Lock(k) => return Some(Fetched::Lock(k)),
-        Packed::Unlock(k) => return Some(Fetched::Unlock(k)),
-        Packed::Post(k) => return Some(Fetched::Post(k)),
-        Packed::Sleep(n) => return Some(Fetched::Sleep(n)),
+        Packed::Short(short) => return Some(Fetched::Short(short)),
         Packed::Make(_) => {
             return Some(Fetched::Make(CallPlace {
                 body: at.body as usize,

@@ -1,9 +1,9 @@
 //! Units as they are fetched.
 
-use words_numbers::ObjId;
+use crate::ShortCall;
 
-/// A unit as it is fetched. The calls that are made most often, and have one number at most, are told by themselves. Any other is told by
-/// where it stands, since it is large and is looked at only when its tick is over.
+/// A unit as it is fetched. A short call is told by itself. Any other is told by where it stands, since it is large and is looked at only
+/// when its tick is over.
 #[derive(Clone, Copy)]
 pub enum Fetched {
     /// Runs for so many ticks.
@@ -12,16 +12,8 @@ pub enum Fetched {
     Jump,
     /// Makes the call that stands there.
     Make(CallPlace),
-    /// Calls `sched_yield`.
-    Yield,
-    /// Calls `pthread_mutex_lock` for that mutex.
-    Lock(ObjId),
-    /// Calls `pthread_mutex_unlock` for that mutex.
-    Unlock(ObjId),
-    /// Calls `sem_post` for that semaphore.
-    Post(ObjId),
-    /// Calls `nanosleep` for so many ticks.
-    Sleep(u64),
+    /// Makes that call.
+    Short(ShortCall),
     /// Comes to the end of the body.
     Finish,
 }

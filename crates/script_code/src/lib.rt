@@ -9,9 +9,11 @@ mod fetched;
 mod flatten;
 mod next;
 mod ops;
+mod short_call;
 mod units;
 
 pub use code::Code;
 pub use fetched::{CallPlace, Fetched};
 pub use rules_bodies::{Cursor, Op, Unit};
+pub use short_call::ShortCall;
 pub use units::Units;

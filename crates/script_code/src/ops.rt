@@ -1,26 +1,23 @@
 //! The operations of a body as they are kept.
-ghost use Rattle.std.specs.Prelude.{◌≡◌, ◌<◌, [], ◌∷◌, ◌++◌, length, slice_get, slice_set, unwrap_or, IfSome, OnOk, OnErr, Some};
+ghost use Rattle.std.specs.Prelude.{◌≡◌, ◌<◌, [], ◌∷◌, ◌++◌, length, slice_get, slice_set, unwrap_or, IfSome, OnOk, OnErr};
 ghost use Rattle.words_script.specs.declared.call.Call.TheVariants.{Yield};
 ghost use Rattle.rules_bodies.specs.declared.op.Op.TheVariants.{Make, Test};
 ghost use Rattle.script_code.specs.Fetched.{call_at};
-ghost use Rattle.script_code.specs.Packed.{IsIn, all_unpacked, short_call, unpacked};
+ghost use Rattle.script_code.specs.Packed.{IsIn, all_unpacked, unpacked};
 
+use crate::ShortCall;
 use std::alloc::{AllocError, Global};
 use std::marker::Model;
-use words_numbers::{ObjId, Res};
+use words_numbers::Res;
 use words_script::Call;
 
-/// An operation in 16 bytes. The calls that are made most often, and have one number at most, are kept whole; any other, which takes 48
-/// bytes by itself, is told by its number in the table of its body.
+/// An operation in 16 bytes. A short call is kept whole; any other, which takes 48 bytes by itself, is told by its number in the table of
+/// its body.
 #[derive(Clone, Copy)]
 pub(crate) enum Packed {
     Run(u64),
     Make(usize),
-    Yield,
-    Lock(ObjId),
-    Unlock(ObjId),
-    Post(ObjId),
-    Sleep(u64),
+    Short(ShortCall),
     Set(u64),
     Add(u64),
     Take,
@@ -81,8 +78,8 @@ impl Ops {
     pub(crate) fn push_call(&mut self, call: &Call) -> Result<(), AllocError>
         ensures { OnOk result (self.new ≡ self.old ++ Make call.now ∷ []) }
     {
-        if let Some(packed) = shortened(call) {
-            return self.push(packed);
+        if let Some(short) = ShortCall::of(call) {
+            return self.push(Packed::Short(short));
         }
         let number = self.calls.len();
         append(&mut self.calls, *call)?;
@@ -105,7 +102,8 @@ impl Ops {
     {
         match self.packed.get(number)? {
             Packed::Make(call) => Some(self.calls[*call]),
-            packed => packed.short_call(),
+            Packed::Short(short) => Some(short.call()),
+            _ => None,
         }
     }
 
@@ -126,36 +124,6 @@ impl Ops {
         ensures { all_unpacked result.1.now result.0.now ≡ self.now }
     {
         (self.packed.as_slice(), self.calls.as_slice())
-    }
-}
-
-impl Packed {
-    // The call that it keeps by itself.
-    fn short_call(&self) -> Option<Call>
-        ensures { result ≡ short_call self.now }
-    {
-        match *self {
-            Packed::Yield => Some(Call::Yield),
-            Packed::Lock(k) => Some(Call::Lock(k)),
-            Packed::Unlock(k) => Some(Call::Unlock(k)),
-            Packed::Post(k) => Some(Call::SemPost(k)),
-            Packed::Sleep(n) => Some(Call::Nanosleep(n)),
-            _ => None,
-        }
-    }
-}
-
-// The operation that keeps the call by itself, where it is short.
-fn shortened(call: &Call) -> Option<Packed>
-    ensures { IfSome result (λ p. short_call p ≡ Some call.now) }
-{
-    match *call {
-        Call::Yield => Some(Packed::Yield),
-        Call::Lock(k) => Some(Packed::Lock(k)),
-        Call::Unlock(k) => Some(Packed::Unlock(k)),
-        Call::SemPost(k) => Some(Packed::Post(k)),
-        Call::Nanosleep(n) => Some(Packed::Sleep(n)),
-        _ => None,
     }
 }
 

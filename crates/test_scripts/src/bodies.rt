@@ -58,11 +58,7 @@ fn said(code: &Code, unit: &Fetched) -> (&'static str, u64) {
         }
         Fetched::Jump => ("jump", 0),
         Fetched::Finish => ("finish", 0),
-        Fetched::Yield => ("yield", 0),
-        Fetched::Lock(k) => ("lock", u64::from(k.get())),
-        Fetched::Unlock(k) => ("unlock", u64::from(k.get())),
-        Fetched::Post(k) => ("post", u64::from(k.get())),
-        Fetched::Sleep(ticks) => ("sleep", *ticks),
+        Fetched::Short(short) => said_of_call(&short.call()),
     }
 }
 
@@ -76,6 +72,11 @@ fn number_in_table(code: &Code, place: &CallPlace) -> u64 {
 
 fn said_of_call(call: &Call) -> (&'static str, u64) {
     match call {
+        Call::Yield => ("yield", 0),
+        Call::Lock(k) => ("lock", u64::from(k.get())),
+        Call::Unlock(k) => ("unlock", u64::from(k.get())),
+        Call::SemPost(k) => ("post", u64::from(k.get())),
+        Call::Nanosleep(ticks) => ("sleep", *ticks),
         Call::Push(_) => ("push", 0),
         Call::Pop(run) => ("pop", u64::from(*run)),
         _ => ("another call", 0),
