@@ -75,8 +75,24 @@ fn has_released(place: &Option<Place>, mutex: &Option<ObjId>) -> bool
     }
 }
 
-/// Whether a thread at that place waits with the mutex of all that wait for the same condition, where these wait with one: the first of
-/// them tells. It does where it waits for no condition.
+// Whether a thread at that place waits with the mutex of all on its list, where these wait with one: the first of them tells.
+#[inline(never)]
+fn is_like_first(links: &Links, places: &[Option<Place>], list: u32, place: &Place) -> bool
+    requires held { AreHeld places.now links.now }
+    requires alike { AreAlike places.now }
+    requires list { list ≡ number_of place.now.object }
+    requires id { id_of place.now.object < 256 }
+    ensures { result ≡ true → Fits places.now place.now }
+{
+    match links.front(list) {
+        None => true,
+        Some(node) => has_released(&places[node as usize], &place.released),
+    }
+}
+
+/// Whether a thread at that place waits with the mutex of all that wait for the same condition, where these wait with one. It does where
+/// it waits for no condition.
+#[inline(always)]
 pub(crate) fn fits(links: &Links, places: &[Option<Place>], list: u32, place: &Place) -> bool
     requires held { AreHeld places.now links.now }
     requires alike { AreAlike places.now }
@@ -87,8 +103,5 @@ pub(crate) fn fits(links: &Links, places: &[Option<Place>], list: u32, place: &P
     let WaitObj::Cond(_) = place.object else {
         return true;
     };
-    match links.front(list) {
-        None => true,
-        Some(node) => has_released(&places[node as usize], &place.released),
-    }
+    is_like_first(links, places, list, place)
 }
