@@ -1,6 +1,6 @@
 //! What a thread is doing, as plain data.
 ghost use Rattle.std.specs.Prelude.{◌≡◌};
-ghost use Rattle.rules_machine.specs.Conditions.{released_mutex, waits_on_condition, waits_with_other_mutex};
+ghost use Rattle.rules_machine.specs.Conditions.{released_mutex, waits_on_condition};
 ghost use Rattle.kernel_threads.specs.Plain.{wait_of};
 
 use rules_machine::CondEnd;
@@ -40,16 +40,6 @@ impl Wait {
     {
         match self {
             Wait::Condition(d, _) => *d == c,
-            _ => false,
-        }
-    }
-
-    /// Whether it is for that condition, with another mutex.
-    pub fn is_with_other_mutex(&self, c: ObjId, k: ObjId) -> bool
-        ensures { result ≡ waits_with_other_mutex c k (wait_of self.now) }
-    {
-        match self {
-            Wait::Condition(d, j) => *d == c && !(*j == k),
             _ => false,
         }
     }

@@ -1,4 +1,5 @@
-//! Three threads that wait for one mutex, a fourth that waits for a semaphore of the same number, and two that wait for signals.
+//! Three threads that wait for one mutex, a fourth that waits for a semaphore of the same number, two that wait for signals, and two that
+//! wait for one condition with two mutexes.
 ghost use Rattle.std.specs.Prelude.{◌≡◌, ℕ, IfOk, None, length};
 ghost use Rattle.parts_waiters.specs.Places.{place_in};
 ghost use Rattle.parts_waiters.specs.declared.WaitObj.TheVariants.{Mutex};
@@ -83,6 +84,27 @@ fn waiters_for_signals_by_their_sets(rt: HostRuntime) {
         waits.best_for_signal(&sets, 2),
     ];
     assert_eq!(rt; best, [Some(thread(1)), Some(thread(0)), None]);
+}
+
+#[test]
+fn a_condition_is_bound_to_the_mutex_of_its_waiters(rt: HostRuntime) {
+    let mut waits = Waits::open(rt.alloc(), 3).expect(&rt, "memory");
+    let (c, k, other) = (object(1), object(2), object(3));
+    waits.enter_condition(c, k, thread(0), prio(10), 1);
+    let alike = [
+        waits.is_bound_elsewhere(c, k),
+        waits.is_bound_elsewhere(c, other),
+        waits.is_bound_elsewhere(other, k),
+    ];
+    assert_eq!(rt; alike, [false, true, false]);
+    waits.enter_condition(c, other, thread(1), prio(20), 2);
+    let mixed = [
+        waits.is_bound_elsewhere(c, k),
+        waits.is_bound_elsewhere(c, other),
+    ];
+    assert_eq!(rt; mixed, [true, true]);
+    waits.leave(thread(1));
+    assert_eq!(rt; waits.is_bound_elsewhere(c, k), false);
 }
 
 // Room for as many threads as there may be, none of which waits.
