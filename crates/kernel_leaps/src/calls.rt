@@ -43,9 +43,14 @@ fn make_any_in_full<K: Sink>(p: &mut Parts, t: Tid, place: CallPlace, out: &mut 
     make_call(p, t, &call, out);
 }
 
-/// A short call.
+/// A short call. For `WAY` see `leap_thread`.
 #[inline(always)]
-pub(crate) fn make_short<K: Sink>(p: &mut Parts, t: Tid, short: ShortCall, out: &mut Tracer<'_, K>)
+pub(crate) fn make_short<K: Sink, const WAY: usize>(
+    p: &mut Parts,
+    t: Tid,
+    short: ShortCall,
+    out: &mut Tracer<'_, K>,
+)
     requires caller { CanCall p.old t }
     requires can { CanMake (objects_in p.old) (thread_at p.old.machine t) (call_of_short short) }
     ensures { Does K.text K.faults (makes_call (flat_bodies p.old.code) (by t (call_of_short short))) p.old p.new out.old out.new }

@@ -63,7 +63,7 @@ fn complete<K: Sink, const WAY: usize>(
             let CallPlace { body, op } = *place;
             make_any(p, t, CallPlace { body, op }, out)
         }
-        Fetched::Short(short) => make_short(p, t, *short, out),
+        Fetched::Short(short) => make_short::<K, WAY>(p, t, *short, out),
         Fetched::Finish => finish(p, t, out),
     }
 }
