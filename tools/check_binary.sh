@@ -76,6 +76,15 @@ line_ends() {
 try 'the trace of a script' 0 'same' check 10 < <(beside cat examples/one_thread.trace)
 try 'another trace' 7 'differs 2' check 10 < <(beside cat examples/yield.trace)
 try 'no trace' 8 'no trace' check 10 <examples/one_thread.task
+# A script of so many bytes in front of its trace.
+padded() {
+    head -c "$(($1 - 32))" /dev/zero | tr '\0' '#'
+    echo
+    beside cat examples/one_thread.trace
+}
+
+try 'a script of the greatest length, and its trace' 0 'same' check 10 < <(padded 1048576)
+try 'a script of one byte more, and its trace' 3 'too long' check 10 < <(padded 1048577)
 try 'a script and a trace of the greatest length' 7 'differs 7' check 10 < <(beside line_ends 67108864)
 try 'a script and a trace of one byte more' 3 'too long' check 10 < <(beside line_ends 67108865)
 

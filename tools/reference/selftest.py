@@ -22,6 +22,7 @@ import pathlib
 import re
 import sys
 
+import answers
 import check_facts
 import generate
 from audits import audit
@@ -200,8 +201,9 @@ def main() -> int:
         wrong += [f"{words} is taken for a command"] if command_of(words) is not None else []
     compared += FACTS_OF + FACTS_OF // 2 + len(list(WORKED.glob("*.audit"))) + len(LINES_OF_THE_CLOCK) + UNSET_OF
     refused, faults = faults_wrong()
-    compared += refused
-    wrong += faults
+    answered, others = answers.differences()
+    compared += refused + answered
+    wrong += faults + others
     wrong += audits_wrong()
     wrong += lines_wrong()
     wrong += words_wrong(UNSET_OF)

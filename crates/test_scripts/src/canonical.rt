@@ -75,3 +75,13 @@ fn canonical_texts_are_read_back(rt: HostRuntime) -> Result<(), Fail> {
     }
     Ok(())
 }
+
+#[test]
+fn up_to_a_failed_write(rt: HostRuntime) -> Result<(), Fail> {
+    let alloc = rt.alloc();
+    let (text, _) = TEXTS[0];
+    let mut sink = MemSink::open(alloc, 1000, vec![in alloc; 2u64; 1]?)?;
+    assert_eq!(rt; write_canonical(alloc, text.as_bytes(), &mut sink)?, false);
+    assert_eq!(rt; sink.text(), b"quantum 10\n".as_slice());
+    Ok(())
+}

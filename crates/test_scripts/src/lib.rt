@@ -17,5 +17,3 @@ mod printed;
 mod refused;
 #[cfg(test)]
 mod versions;
-#[cfg(test)]
-mod written;

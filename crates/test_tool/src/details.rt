@@ -40,19 +40,3 @@ fn first_lines_fail_in_turn(rt: HostRuntime) -> Result<(), Fail> {
     }
     Ok(())
 }
-
-#[test]
-fn text_that_is_no_script_has_no_detail(rt: HostRuntime) -> Result<(), Fail> {
-    let script = b"thread a fifo 5 at 0\nrum 3\nend\n".as_slice();
-    let refused = "refused 2 2 UnknownWord\n";
-    assert!(rt;
-        tells(
-            rt.alloc(),
-            &["detail", "3"],
-            script,
-            Status::Refused,
-            refused
-        )?
-    );
-    Ok(())
-}
