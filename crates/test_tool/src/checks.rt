@@ -9,7 +9,15 @@ const INPUT: &str = "thread a fifo 5 at 0\nrun 3\nend\n%%\n";
 #[test]
 fn a_trace_is_compared(rt: HostRuntime) -> Result<(), Fail> {
     let text = "differs 1\nwant 0 start a\nhave nothing\n";
-    assert!(rt; tells(rt.alloc(), &["check", "10"], INPUT.as_bytes(), Status::Differs, text)?);
+    assert!(rt;
+        tells(
+            rt.alloc(),
+            &["check", "10"],
+            INPUT.as_bytes(),
+            Status::Differs,
+            text
+        )?
+    );
     Ok(())
 }
 

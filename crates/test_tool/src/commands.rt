@@ -126,7 +126,11 @@ fn is_usage(alloc: Global, words: &[&str]) -> Result<bool, AllocError> {
 #[test]
 fn words_that_are_no_command(rt: HostRuntime) -> Result<(), Fail> {
     let alloc = rt.alloc();
-    assert!(rt; is_usage(alloc, &[])? && is_usage(alloc, &["run", "1x"])? && is_usage(alloc, &["walk", "1"])?);
+    assert!(rt;
+        is_usage(alloc, &[])?
+            && is_usage(alloc, &["run", "1x"])?
+            && is_usage(alloc, &["walk", "1"])?
+    );
     Ok(())
 }
 
