@@ -32,40 +32,16 @@ pub struct FewMessages {
 
 // ---- the threads on a list
 
-// Whether that thread stands at a place of the list of a priority.
-fn is_thread_at(parts: &Parts, p: Prio, place: u32, t: u16) -> bool
-    ensures { result ≡ true → slice_get (list_of p parts.now.machine.lists) place ≡ Some t }
-{
-    match parts.thread_on_list(p, place) {
-        Some(u) => u.get() == t,
-        None => false,
-    }
-}
-
-// Whether the list of a priority has so many threads at most.
-fn is_end_of_list(parts: &Parts, p: Prio, place: u32) -> bool
-    ensures { result ≡ true → slice_get (list_of p parts.now.machine.lists) place ≡ None }
-{
-    match parts.thread_on_list(p, place) {
-        Some(_) => false,
-        None => true,
-    }
-}
-
 /// Whether these threads and no other stand on the list of a priority, in that order.
+#[inline(always)]
 pub(crate) fn stand_on_list(parts: &Parts, p: Prio, few: &FewThreads) -> bool
     ensures { result ≡ true → list_of p parts.now.machine.lists ≡ threads_in few.now }
 {
-    let count = few.count;
-    if count as usize > MOST {
+    let count = few.count as usize;
+    if count > MOST {
         return false;
     }
-    for place in 0..count {
-        if !is_thread_at(parts, p, place, few.threads[place as usize]) {
-            return false;
-        }
-    }
-    is_end_of_list(parts, p, count)
+    parts.is_list(p, &few.threads[..count])
 }
 
 /// What is seen of the list of a priority; nothing where more threads stand on it than are kept.

@@ -1,5 +1,5 @@
 //! What can be read of all parts.
-ghost use Rattle.std.specs.Prelude.{ℕ, [], ◌≡◌, ◌≤◌, ◌<◌, ◌-◌, IfSome, length, slice_get};
+ghost use Rattle.std.specs.Prelude.{ℕ, [], ◌≡◌, ◌≤◌, ◌<◌, ◌-◌, IfSome, length, slice_get, true};
 ghost use Rattle.std.specs.List.{AllByRecursion};
 ghost use Rattle.rules_lists.specs.Lists.{list_of};
 ghost use Rattle.rules_machine.specs.State as machine;
@@ -43,6 +43,15 @@ impl Parts {
         ensures few { IfSome result (λ _. place < 65536) }
     {
         self.ready.nth(p, place)
+    }
+
+    /// Whether these threads and no other stand on the list of this priority, in that order, the head first.
+    #[inline(always)]
+    pub fn is_list(&self, p: Prio, threads: &[u16]) -> bool
+        ensures same { result ≡ true → list_of p self.now.machine.lists ≡ threads.now }
+        ensures only { list_of p self.now.machine.lists ≡ threads.now → result ≡ true }
+    {
+        self.ready.is_list(p, threads)
     }
 
     /// How many lists are empty from that of this priority on, the next lower ones behind it, of so many.

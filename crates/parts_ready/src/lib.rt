@@ -222,6 +222,31 @@ impl Ready {
         }
     }
 
+    /// Whether these threads and no other stand on the list of this priority, in that order, the head first. One walk.
+    pub fn is_list(&self, p: Prio, threads: &[u16]) -> bool
+        ensures same { result ≡ true → list_of p self.now.lists ≡ threads.now }
+        ensures only { list_of p self.now.lists ≡ threads.now → result ≡ true }
+    {
+        // so it is known that each stands there once
+        self.links.stand_once();
+        let mut node = self.links.front(p.get() as u32 - 1);
+        for place in 0..threads.len() {
+            match node {
+                None => return false,
+                Some(here) => {
+                    if here != u32::from(threads[place]) {
+                        return false;
+                    }
+                    node = self.links.next(here);
+                }
+            }
+        }
+        match node {
+            None => true,
+            Some(_) => false,
+        }
+    }
+
     /// How many lists are empty from that of this priority on, the next lower ones behind it, of so many.
     pub fn empty_from(&self, p: Prio, most: u32) -> u32
         requires { most ≤ p }

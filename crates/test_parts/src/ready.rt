@@ -53,6 +53,14 @@ fn threads_of_one_priority(rt: HostRuntime) {
         fifth(&ready, 3),
     ];
     assert_eq!(rt; places, [Some(2), Some(2), Some(1), None]);
+    let same = [
+        ready.is_list(prio(5), &[2, 0, 1]),
+        ready.is_list(prio(5), &[2, 0]),
+        ready.is_list(prio(5), &[2, 0, 1, 3]),
+        ready.is_list(prio(5), &[2, 1, 0]),
+        ready.is_list(prio(6), &[]),
+    ];
+    assert_eq!(rt; same, [true, false, false, false, true]);
 }
 
 #[test]

@@ -1,4 +1,4 @@
-use Rattle.std.proofs.Common.{◌∙◌, ap, arith, sym, ◌≡◌, ◌<◌, ◌≢◌, ℕ}
+use Rattle.std.proofs.Common.{◌∙◌, ap, arith, sym, ◌<◌, ◌≢◌, ℕ}
 use Rattle.std.specs.Int.{bit_at}
 use Rattle.std.proofs.lemmas.Nat.Bits.{bit_at-zero}
 use Rattle.parts_ready.proofs.Words.{below_place, low_bit}
