@@ -365,9 +365,9 @@ impl SeenFacts {
         most.min((end - bit) as usize)
     }
 
-    /// How many facts from a number on told nothing, of so many, as far as the bits show.
-    #[inline(always)]
-    pub fn quiet_from(&self, number: usize, most: usize) -> usize
+    // The same, as far as the words of their bits show, one behind the other.
+    #[inline(never)]
+    fn quiet_in_words(&self, number: usize, most: usize) -> usize
         requires { number + most < 2 ^ 64 }
         ensures few { result ≤ most }
         ensures quiet { (i : ℕ) → i < result → may_tell (number + i) self.now.busy ≡ false }
@@ -381,5 +381,18 @@ impl SeenFacts {
             quiet += more;
         }
         quiet
+    }
+
+    /// How many facts from a number on told nothing, of so many, as far as the bits show. Mostly one word shows it.
+    #[inline(always)]
+    pub fn quiet_from(&self, number: usize, most: usize) -> usize
+        requires { number + most < 2 ^ 64 }
+        ensures few { result ≤ most }
+        ensures quiet { (i : ℕ) → i < result → may_tell (number + i) self.now.busy ≡ false }
+    {
+        if self.quiet_in_word(number, most) == most {
+            return most;
+        }
+        self.quiet_in_words(number, most)
     }
 }

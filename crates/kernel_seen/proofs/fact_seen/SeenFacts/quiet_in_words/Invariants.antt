@@ -1,6 +1,6 @@
 use Rattle.std.proofs.Common.{◌≡◌, ◌<◌, ◌≤◌, ◌+◌, ◌-◌, false, ℕ}
 use Rattle.kernel_seen.specs.FactSeen.{may_tell}
-use Rattle.kernel_seen.proofs.fact_seen.SeenFacts.quiet_from.Given as goal
+use Rattle.kernel_seen.proofs.fact_seen.SeenFacts.quiet_in_words.Given as goal
 
 abbrev pub invariant-loop-quiet : goal.invariant-loop-quiet
 invariant-loop-quiet l = record {
