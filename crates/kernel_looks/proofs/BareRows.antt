@@ -7,7 +7,7 @@ use Rattle.kernel_lines.specs.Rows.{thread_fact_of}
 use Rattle.kernel_lines.specs.declared.rows.ThreadRow.{ThreadRow}
 use Rattle.kernel_lines.specs.declared.rows.ThreadRow.TheVariants as thread
 use Rattle.kernel_facts.specs.Kept.{thread_row_kept}
-use Rattle.kernel_looks.specs.Blocks.{inner_rows_kept, is_inner, nothings}
+use Rattle.kernel_looks.specs.Nothings.{inner_rows_kept, is_inner, nothings}
 use Rattle.kernel_looks.specs.Nothing.{TellsNothing, is_status}
 use Rattle.kernel_looks.proofs.Runs.{kept_nothing, nothings_sum}
 

@@ -3,7 +3,7 @@ use Rattle.std.proofs.Common.{◌≡◌, ◌∙◌, ◌+◌, List, [], ◌∷◌
 use Rattle.words_script.specs.declared.decl.Decl.{Decl}
 use Rattle.kernel_lines.specs.Rows.{list_text}
 use Rattle.kernel_facts.specs.Kept.{kept_below}
-use Rattle.kernel_looks.specs.Blocks.{lists_from}
+use Rattle.kernel_looks.specs.Nothings.{lists_from}
 
 pub kept_sum : (f : ℕ → List (List ℕ)) (a n all : ℕ) → all ≡ a + n → kept_below f all ≡ kept_below f a ++ kept_below (λ (i : ℕ). f (a + i)) n
 kept_sum f a zero all is = let same : all ≡ a = omega (arith, is) in ap (kept_below f) same ∙ sym (append-nil (kept_below f a))

@@ -5,7 +5,7 @@ use Rattle.words_script.specs.declared.decl.Decl.{Decl}
 use Rattle.parts_texts.specs.Texts.{Next}
 use Rattle.kernel_facts.specs.Kept.{kept_below}
 use Rattle.kernel_seen.specs.FactSeen.{IsMemoryOf, may_tell}
-use Rattle.kernel_looks.specs.Blocks.{WentKnown, nothings}
+use Rattle.kernel_looks.specs.Nothings.{WentKnown, nothings}
 use Rattle.kernel_looks.specs.Desk.{Went, WentOn}
 use Rattle.kernel_looks.specs.declared.desk.Desk.{Desk}
 use Rattle.kernel_looks.proofs.Looking.{went_both, went_none, went_same}

@@ -1,5 +1,5 @@
 pub mod Nothing
 pub mod PendingSignals
 pub mod Desk
-pub mod Blocks
+pub mod Nothings
 pub mod Ahead

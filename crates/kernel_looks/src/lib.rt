@@ -9,7 +9,6 @@
 #![tactic(auto)]
 
 mod ahead;
-mod blocks;
 mod changes;
 mod desk;
 mod look;
@@ -17,6 +16,7 @@ mod look_lists;
 mod look_signals;
 mod look_threads;
 mod nothing;
+mod nothings;
 
 pub use desk::Desk;
 pub use look::look_at_facts;

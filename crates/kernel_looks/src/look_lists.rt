@@ -7,7 +7,7 @@ ghost use Rattle.kernel_facts.specs.Kept.{lists_kept};
 ghost use Rattle.kernel_seen.specs.FactSeen.{IsMemoryOf};
 ghost use Rattle.kernel_looks.specs.Ahead.{IsStretch, IsToldAt, past};
 ghost use Rattle.kernel_looks.specs.Desk.{WentOn};
-ghost use Rattle.kernel_looks.specs.Blocks.{list_at, lists_from};
+ghost use Rattle.kernel_looks.specs.Nothings.{list_at, lists_from};
 
 use crate::ahead::Stretch;
 use crate::desk::Desk;

@@ -10,7 +10,7 @@ ghost use Rattle.kernel_lines.specs.InLine.{stands_in};
 ghost use Rattle.kernel_lines.specs.Rows.{object_count, object_facts, thread_fact_of};
 ghost use Rattle.kernel_lines.specs.declared.rows.ThreadRow.{ThreadRow};
 ghost use Rattle.kernel_facts.specs.Kept.{waiters_text};
-ghost use Rattle.kernel_looks.specs.Blocks.{is_inner};
+ghost use Rattle.kernel_looks.specs.Nothings.{is_inner};
 ghost use Rattle.kernel_looks.specs.Nothing.{IsBare, TellNothing, TellsNothing, is_status, wait_obj};
 
 use kernel_facts::is_main;

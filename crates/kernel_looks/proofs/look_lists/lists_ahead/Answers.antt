@@ -1,6 +1,6 @@
 use Rattle.std.proofs.Common.{◌+◌, below_more, ℕ}
 use Rattle.kernel_looks.specs.Ahead.{IsToldAt}
-use Rattle.kernel_looks.specs.Blocks.{list_at}
+use Rattle.kernel_looks.specs.Nothings.{list_at}
 use Rattle.kernel_looks.proofs.look_lists.lists_ahead.Goals as goal
 
 pub returns-then-is_list_ahead-clause-told : goal.returns-then-is_list_ahead-clause-told

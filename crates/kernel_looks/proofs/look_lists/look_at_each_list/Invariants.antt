@@ -2,7 +2,7 @@ use Rattle.std.proofs.Common.{◌≤◌}
 use Rattle.std.specs.Prelude.{◌-◌}
 use Rattle.kernel_seen.specs.FactSeen.{IsMemoryOf}
 use Rattle.kernel_looks.specs.Ahead.{IsStretch, past}
-use Rattle.kernel_looks.specs.Blocks.{lists_from}
+use Rattle.kernel_looks.specs.Nothings.{lists_from}
 use Rattle.kernel_looks.specs.Desk.{WentOn}
 use Rattle.kernel_looks.proofs.look_lists.look_at_each_list.Given as goal
 

@@ -1,5 +1,5 @@
 use Rattle.std.proofs.Common.{◌≡◌, ◌+◌, arith, ℕ}
-use Rattle.kernel_looks.specs.Blocks.{list_at}
+use Rattle.kernel_looks.specs.Nothings.{list_at}
 use Rattle.kernel_looks.proofs.Stretches.{ahead_other, past_memory, skip_facts}
 use Rattle.kernel_looks.proofs.look_lists.look_at_next_lists.Goals as goal
 

@@ -1,5 +1,5 @@
 use Rattle.std.proofs.Common.{◌∙◌, ap, subst, sym, ℕ, ◌*◌}
-use Rattle.kernel_looks.specs.Blocks.{nothings}
+use Rattle.kernel_looks.specs.Nothings.{nothings}
 use Rattle.kernel_looks.specs.Desk.{WentOn}
 use Rattle.kernel_looks.proofs.BareRows.{bare_rows}
 use Rattle.kernel_looks.proofs.NothingTold.{nothing_short}

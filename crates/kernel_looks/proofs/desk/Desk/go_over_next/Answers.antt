@@ -1,5 +1,5 @@
 use Rattle.std.proofs.Common.{[], ◌≡◌, ◌∷◌, ◌++◌, arith, subst, ℕ}
-use Rattle.kernel_looks.specs.Blocks.{WentKnown, nothings}
+use Rattle.kernel_looks.specs.Nothings.{WentKnown, nothings}
 use Rattle.kernel_looks.proofs.Runs.{known_both, known_one}
 use Rattle.kernel_looks.proofs.desk.Desk.go_over_next.Goals as goal
 

@@ -1,7 +1,7 @@
 //! A look goes over many facts that tell nothing.
 ghost use Rattle.std.specs.Prelude.{ℕ, ◌≡◌, ◌≤◌, ◌<◌, ◌+◌, false, length};
 ghost use Rattle.kernel_seen.specs.FactSeen.{may_tell};
-ghost use Rattle.kernel_looks.specs.Blocks.{WentKnown, nothings};
+ghost use Rattle.kernel_looks.specs.Nothings.{WentKnown, nothings};
 
 use crate::desk::Desk;
 
