@@ -10,3 +10,4 @@ pub mod LeapsTold
 pub mod Subjects
 pub mod Flat
 pub mod Depths
+pub mod TimeTaken

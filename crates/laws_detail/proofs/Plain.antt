@@ -60,15 +60,15 @@ module _ {P : Type 0} (bodies : Bodies P) (th : Thread P) where
   by_left zero = advance_seen th.frames refl
   by_left (suc left) = refl
 
-  unit_seen : th.is_ending ≡ false → seen (in_unit bodies th).thread ≡ seen th
+  pub unit_seen : th.is_ending ≡ false → seen (in_unit bodies th).thread ≡ seen th
   unit_seen e = ap (λ (b : Bool). seen (takes_unit bodies (choice (top_left th.frames) (b && is_main (top_kind th.frames)) th.cleanups) th).thread) e ∙ by_left (top_left th.frames)
 
 -- ---- what precedes the tick of the head, where no run closes
 
 -- another machine tells the same
-record Tells {P : Type 0} (script : Script) (m n : Machine P) : Type 0 where
-  facts : facts script n ≡ facts script m
-  each : (u : ℕ) → seen (thread_at n u) ≡ seen (thread_at m u)
+pub record Tells {P : Type 0} (script : Script) (m n : Machine P) : Type 0 where
+  pub facts : facts script n ≡ facts script m
+  pub each : (u : ℕ) → seen (thread_at n u) ≡ seen (thread_at m u)
 
 assigned_opened : (now : ℕ) (p : Policy) (o : Option ServerState) → assigned_under p (option_map (activate now) o) ≡ assigned_under p o
 assigned_opened now (policy.Fifo p) o = refl
@@ -149,7 +149,7 @@ module _ {P : Type 0} where
       prepared_is : prepares to (turn_of m) ≡ opens to sent
       prepared_is = ap (λ (s : Turn P). opens to (dispatches to s)) (closes_nothing to (thread_numbers m) (turn_of m) closed)
 
-      prepared_tells : Tells script m (prepares to (turn_of m)).machine
+      pub prepared_tells : Tells script m (prepares to (turn_of m)).machine
       prepared_tells =
           let opened = opens_tells to sent in
           record {

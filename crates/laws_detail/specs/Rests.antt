@@ -1,22 +1,27 @@
 -- Where facts rest: within a leap they change at the instant behind its start alone, and not there either where it begins plainly. All
 -- of it is this project's own.
-use Rattle.std.specs.Prelude.{Some, [], false, flat_map, ℕ, ◌+◌, ◌++◌, ◌<◌, ◌≤◌, ◌≡◌}
+use Rattle.std.specs.Prelude.{None, Some, [], false, flat_map, ℕ, ◌+◌, ◌++◌, ◌<◌, ◌≤◌, ◌==◌, ◌&&◌, ◌≡◌}
 use Rattle.std.specs.List.{range_with_len}
 use Rattle.words_script.specs.declared.decl.Script.{Script}
 use Rattle.rules_machine.specs.Bodies.{Bodies}
+use Rattle.rules_machine.specs.Calls.{unit_effect}
 use Rattle.rules_machine.specs.Dispatch.{head}
+use Rattle.rules_machine.specs.DueItems.{next_item}
 use Rattle.rules_machine.specs.Eventful.{is_eventful}
 use Rattle.rules_machine.specs.Lists.{is}
 use Rattle.rules_machine.specs.Machine.{bodies_of, machine}
 use Rattle.rules_machine.specs.Runs.{ticks}
-use Rattle.rules_machine.specs.Servers.{has_run}
-use Rattle.rules_machine.specs.State.{Machine}
+use Rattle.rules_machine.specs.Servers.{has_high, has_run}
+use Rattle.rules_machine.specs.State.{Machine, Thread}
 use Rattle.rules_machine.specs.Threads.{thread_at}
+use Rattle.rules_machine.specs.Ticks.{capacity_in, slice_is_used}
+use Rattle.rules_machine.specs.Turns.{Turn, turn_of}
+use Rattle.rules_machine.specs.Units.{in_unit}
 use Rattle.rules_facts.specs.Detail.{changed_at, fact_lines_at}
 use Rattle.rules_facts.specs.Facts.{facts}
 use Rattle.rules_facts.specs.Shown.{shown_machine}
-use Rattle.rules_leaps.specs.Leap.{leap_length}
-use Rattle.rules_leaps.specs.Quiet.{handled_at}
+use Rattle.rules_leaps.specs.Leap.{leap, leap_length}
+use Rattle.rules_leaps.specs.Quiet.{after_ticks, at_head, handled_at}
 use Rattle.laws_facts.specs.Shows.{shown_of}
 
 -- of any machine: k ticks on the facts are those one tick on
@@ -52,3 +57,24 @@ StaysAt bodies script m = facts script (shown_of bodies (ticks bodies 1 m).machi
 -- Of a run: where the tick from an instant begins plainly, and the next instant is no eventful one, no fact changes there.
 abbrev pub NoneChangesAfter : Script → ℕ → Type 0
 NoneChangesAfter script n = BeginsPlainly (handled_at script n).machine → is_eventful (bodies_of script) (machine script n) 1 ≡ false → changed_at script (n + 1) ≡ []
+
+-- ---- ticks that only take time
+
+-- k ticks of a thread at once
+abbrev pub spent_by : {P : Type 0} → Bodies P → ℕ → Thread P → Thread P
+spent_by bodies k th = after_ticks k (in_unit bodies th).thread
+
+-- Such ticks only take time: what the unit does at its end is nothing, and they use up neither an interval nor a capacity.
+pub record OnlyTakeTime {P : Type 0} (bodies : Bodies P) (k t : ℕ) (m : Machine P) : Type 0 where
+  pub idle : (s : Turn P) → unit_effect bodies t (in_unit bodies (thread_at m t)).unit s ≡ s
+  pub interval : slice_is_used (spent_by bodies k (thread_at m t)).policy (spent_by bodies k (thread_at m t)).slice m.quantum ≡ false
+  pub capacity : (has_high (thread_at m t).server && capacity_in (spent_by bodies k (thread_at m t)).server == 0) ≡ false
+
+-- so it is of the ticks of the head, where there is one
+abbrev pub HeadOnlyTakesTime : {P : Type 0} → Bodies P → ℕ → Machine P → Type 0
+HeadOnlyTakesTime bodies k m = (t : ℕ) → head m ≡ Some t → OnlyTakeTime bodies k t (at_head m)
+
+-- of any machine: behind a leap of k ticks, where nothing is due there, the facts are those of now
+abbrev pub StaysBehind : {P : Type 0} → Bodies P → Script → ℕ → Machine P → Type 0
+StaysBehind bodies script k m = let left = (leap bodies k (turn_of m)).machine in
+    next_item left ≡ None → facts script (shown_of bodies left) ≡ facts script (shown_of bodies m)

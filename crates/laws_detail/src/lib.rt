@@ -27,7 +27,7 @@ ghost use Rattle.laws_detail.specs.Depths.{HasDepthsOf};
 ghost use Rattle.laws_detail.specs.Flat.{FlatTellsTheSame};
 ghost use Rattle.laws_detail.specs.Leaps.{LeapsAreTold};
 ghost use Rattle.laws_detail.specs.Looks.{IsTold, TickInTime};
-ghost use Rattle.laws_detail.specs.Rests.{BeginsPlainly, FactsRest, NoneChangesAfter, RestsAt, StaysAt};
+ghost use Rattle.laws_detail.specs.Rests.{BeginsPlainly, FactsRest, HeadOnlyTakesTime, NoneChangesAfter, RestsAt, StaysAt, StaysBehind};
 ghost use Rattle.laws_detail.specs.Subjects.{HaveSameSizes, HaveSameSubjects};
 
 /// Of any machine whose items are handled: where none of the next instants is eventful, the facts of each of them are those of the first
@@ -53,6 +53,13 @@ pub fn facts_stay_in_a_plain_tick()
 /// eventful, no fact changes there. So `detail` looks there only where one of the two is so.
 pub fn none_changes_after_a_plain_tick()
     ensures { (script : Script) → IsWellFormed script → (n : ℕ) → NoneChangesAfter script n }
+{}
+
+/// Of any machine whose items are handled: where its tick begins plainly, and so many ticks of the head only take time, since the unit
+/// that they are of does nothing at its end, and they use up neither an interval nor a capacity, the facts behind them are those of now,
+/// unless something is due there. So `detail` need not look there, though a unit is complete.
+pub fn facts_stay_where_ticks_only_take_time()
+    ensures { (bodies : Bodies Place) → (script : Script) → (m : Machine Place) → IsHandled m → BeginsPlainly m → (k : ℕ) → HeadOnlyTakesTime bodies k m → StaysBehind bodies script k m }
 {}
 
 /// What `detail` tells of a run goes on line by line: with what happens at the instant that is reached, and with the facts of each
