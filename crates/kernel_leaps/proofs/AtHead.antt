@@ -45,7 +45,7 @@ module _ (script : Script) (fits : IsWellFormed script) (n : ℕ) where
   abbrev begun : Kernel
   begun = p script fits n
 
-  is_head : begun.machine ≡ at_head handled
+  pub is_head : begun.machine ≡ at_head handled
   is_head = ap (λ (s : Turn Cursor). (prepares (to script fits n) s).machine) (turn_is (l script fits n) (is_still script fits n))
 
   is_ready : IsReady (q script fits n) (m script fits n)

@@ -1,6 +1,6 @@
 -- A leap of a thread within the unit that it is in, and how long it is.
 use Rattle.std.proofs.Common.{Bool, List, None, Option, Some, [], ◌∷◌, ap, arith, false, refl, suc, sym, true, zero, ℕ, ◌∙◌, ◌<◌, ◌≤◌, ◌≡◌, subst}
-use Rattle.std.specs.Prelude.{max, min, ◌-◌, ◌==◌, ◌&&◌, ◌||◌, if◌then◌else◌}
+use Rattle.std.specs.Prelude.{max, min, not, ◌+◌, ◌-◌, ◌==◌, ◌&&◌, ◌||◌, if◌then◌else◌}
 use Rattle.words_script.specs.declared.policy.Policy.{Policy}
 use Rattle.words_script.specs.declared.policy.Policy.TheVariants as policy
 use Rattle.rules_server.specs.Server.{ServerState, charge_ticks, is_high}
@@ -10,7 +10,7 @@ use Rattle.rules_machine.specs.Bodies.{Bodies}
 use Rattle.rules_machine.specs.Eventful.{tick_matters}
 use Rattle.rules_machine.specs.Servers.{has_high}
 use Rattle.rules_machine.specs.State.{Frame, Thread}
-use Rattle.rules_machine.specs.Threads.{is_blocked, top_left}
+use Rattle.rules_machine.specs.Threads.{is_blocked, thread_at, top_left}
 use Rattle.rules_moves.proofs.Runs.Ticks.{in_unit_status}
 use Rattle.rules_machine.specs.Ticks.{capacity_in, slice_is_used, tick_charged}
 use Rattle.rules_machine.specs.Units.{in_unit}
@@ -23,8 +23,12 @@ use Rattle.rules_bodies.specs.declared.op.Op.{Op}
 use Rattle.rules_bodies.specs.Flat.{NumberedBodies}
 use Rattle.rules_flat_code.specs.FlatBodies.{flat_bodies}
 use Rattle.kernel_threads.specs.declared.ran.Ran.{Ran}
-use Rattle.kernel_threads.specs.Running.{ArePassed, HasRun, past, run_for}
-use Rattle.kernel_leaps.specs.Passing.{IsQuietTick}
+use Rattle.kernel_threads.specs.Running.{ArePassed, HasRun, all_of, only_takes_time, past, run_for}
+use Rattle.script_code.specs.Fetched.{unit_of}
+use Rattle.laws_detail.specs.Rests.{OnlyTakeTime, spent_by}
+use Rattle.kernel_state.specs.Kernel.{Kernel}
+use Rattle.kernel_leaps.specs.Passing.{IsQuietTick, PassesNoUnit}
+use Rattle.kernel_leaps.proofs.Onward.{does_nothing, first_no, second_no}
 
 -- ---- no unit is passed
 
@@ -161,3 +165,55 @@ not_blocked code near quantum ran old new before now h one runs =
     ap (λ (x : Thread Cursor). is_blocked x.status) (one_tick code near quantum ran old new before now h one)
     ∙ ap is_blocked (in_unit_status (flat_bodies code) old)
     ∙ runs
+
+-- whether what it has run neither completes a unit nor uses anything up
+both_not : (saves complete left slice full : Bool) → (saves && not complete) ≡ true → complete ≡ left → (saves ≡ true → (slice || full) ≡ false) → (left || slice || full) ≡ false
+both_not true true left slice full quiet same sure = absurd (grind arith)
+both_not true false left slice full quiet same sure = ap (λ (b : Bool). b || slice || full) (sym same) ∙ sure refl
+both_not false complete left slice full quiet same sure = absurd (grind arith)
+
+pub not_quiet : (saves complete was_high : Bool) (quantum : ℕ) (th : Thread Cursor) → (saves && not complete) ≡ true → complete ≡ (top_left th.frames == 0) → (saves ≡ true → used_up was_high quantum th ≡ false)
+    → tick_matters was_high quantum th ≡ false
+not_quiet saves complete was_high quantum th = both_not saves complete (top_left th.frames == 0) (slice_is_used th.policy th.slice quantum) (was_high && capacity_in th.server == 0)
+
+both_so : (saves complete left slice full : Bool) → (left || slice || full) ≡ false → complete ≡ left → ((slice || full) ≡ false → saves ≡ true) → (saves && not complete) ≡ true
+both_so saves complete true slice full none same whenever = absurd (grind arith)
+both_so saves complete false slice full none same whenever = ap (λ (b : Bool). saves && not b) same ∙ ap (λ (b : Bool). b && true) (whenever none)
+
+pub so_quiet : (saves complete was_high : Bool) (quantum : ℕ) (th : Thread Cursor) → tick_matters was_high quantum th ≡ false → complete ≡ (top_left th.frames == 0) → (used_up was_high quantum th ≡ false → saves ≡ true)
+    → (saves && not complete) ≡ true
+so_quiet saves complete was_high quantum th = both_so saves complete (top_left th.frames == 0) (slice_is_used th.policy th.slice quantum) (was_high && capacity_in th.server == 0)
+
+-- what a thread has run that passed no unit tells whether its ticks only take time
+module _ (p : Kernel) (t near : ℕ) (ran : Ran) (new : Thread Cursor) (before now : ℕ) (h : HasRun p.code near p.machine.quantum ran (thread_at p.machine t) new before now) (none : PassesNoUnit near t p) where
+  old : Thread Cursor
+  old = thread_at p.machine t
+
+  no_units : h.units ≡ []
+  no_units = none h.units h.each
+
+  all_ticks : ran.passed + ran.ticks ≡ ran.ticks
+  all_ticks = (let zero : ran.passed ≡ 0 = h.passed ∙ ap all_of no_units in omega (arith, zero))
+
+  has_spent : new ≡ spent_by (flat_bodies p.code) (ran.passed + ran.ticks) (thread_at p.machine t)
+  has_spent =
+      h.thread
+      ∙ ap (λ (units : List ℕ). run_for (flat_bodies p.code) ran.ticks (past (flat_bodies p.code) units (thread_at p.machine t))) no_units
+      ∙ ap (λ (j : ℕ). spent_by (flat_bodies p.code) j (thread_at p.machine t)) (sym all_ticks)
+
+  unit_is : unit_of p.code ran.unit ≡ (in_unit (flat_bodies p.code) (thread_at p.machine t)).unit
+  unit_is = h.unit ∙ ap (λ (units : List ℕ). (in_unit (flat_bodies p.code) (past (flat_bodies p.code) units (thread_at p.machine t))).unit) no_units
+
+  pub takes_time : (quantum : ℕ) → quantum ≡ p.machine.quantum → only_takes_time (unit_of p.code ran.unit) ≡ true → used_up ran.was_high quantum new ≡ false → OnlyTakeTime (flat_bodies p.code) (ran.passed + ran.ticks) t p.machine
+  takes_time quantum same unit used =
+      let over : used_up (has_high (thread_at p.machine t).server) p.machine.quantum (spent_by (flat_bodies p.code) (ran.passed + ran.ticks) (thread_at p.machine t)) ≡ false =
+      ap (λ (x : Thread Cursor). used_up (has_high (thread_at p.machine t).server) p.machine.quantum x) (sym has_spent)
+      ∙ ap (λ (w : Bool). used_up w p.machine.quantum new) (sym h.high)
+      ∙ ap (λ (q : ℕ). used_up ran.was_high q new) (sym same)
+      ∙ used in
+      let spent = spent_by (flat_bodies p.code) (ran.passed + ran.ticks) (thread_at p.machine t) in
+      record {
+        idle = does_nothing (flat_bodies p.code) t (in_unit (flat_bodies p.code) (thread_at p.machine t)).unit (sym (ap only_takes_time unit_is) ∙ unit);
+        interval = first_no (slice_is_used spent.policy spent.slice p.machine.quantum) (has_high (thread_at p.machine t).server && capacity_in spent.server == 0) over;
+        capacity = second_no (slice_is_used spent.policy spent.slice p.machine.quantum) (has_high (thread_at p.machine t).server && capacity_in spent.server == 0) over;
+      }

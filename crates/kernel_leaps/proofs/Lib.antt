@@ -35,6 +35,7 @@ pub mod TellingTick
 pub mod TellingRun
 pub mod TellingPieces
 pub mod Resting
+pub mod TimeTaken
 pub mod InUnit
 pub mod AtHead
 pub mod TellingLeap

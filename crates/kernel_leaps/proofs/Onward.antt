@@ -29,13 +29,13 @@ use Rattle.kernel_state.specs.Kernel.{Kernel, after, told, turn}
 use Rattle.kernel_state.specs.Stood.{StoodRight}
 use Rattle.kernel_leaps.proofs.Running.{turn_is}
 
-does_nothing : (bodies : Bodies Cursor) (t : ℕ) (u : unit_type.Unit) → only_takes_time u ≡ true → (s : Turn Cursor) → unit_effect bodies t u s ≡ s
+pub does_nothing : (bodies : Bodies Cursor) (t : ℕ) (u : unit_type.Unit) → only_takes_time u ≡ true → (s : Turn Cursor) → unit_effect bodies t u s ≡ s
 does_nothing bodies t (unit.Run n) e s = refl
 does_nothing bodies t (unit.Make c) e s = absurd (grind arith)
 does_nothing bodies t unit.Jump e s = refl
 does_nothing bodies t unit.Finish e s = absurd (grind arith)
 
-first_no : (a b : Bool) → (a || b) ≡ false → a ≡ false
+pub first_no : (a b : Bool) → (a || b) ≡ false → a ≡ false
 first_no a b e = grind arith
 
 pub second_no : (a b : Bool) → (a || b) ≡ false → b ≡ false

@@ -1,14 +1,13 @@
 -- Facts that stay as they are, from an instant that is no eventful one to the next eventful one.
-use Rattle.std.proofs.Common.{Bool, List, None, [], ap, arith, false, refl, subst, suc, sym, zero, ℕ, ◌∙◌, ◌+◌, ◌++◌, ◌<◌, ◌≤◌, ◌≡◌, append-nil}
+use Rattle.std.proofs.Common.{Bool, List, None, [], ap, arith, false, refl, suc, sym, zero, ℕ, ◌∙◌, ◌+◌, ◌++◌, ◌<◌, ◌≤◌, ◌≡◌, append-nil}
 use Rattle.std.specs.Prelude.{flat_map, is_some, ◌-◌, ◌||◌}
 use Rattle.words_script.specs.declared.decl.Script.{Script}
 use Rattle.rules_bodies.specs.declared.cursor.Cursor.{Cursor}
 use Rattle.rules_machine.specs.Bodies.{Bodies}
-use Rattle.rules_machine.specs.DueItems.{instant, next_item}
+use Rattle.rules_machine.specs.DueItems.{next_item}
 use Rattle.rules_machine.specs.Eventful.{has_item, is_eventful, next_tick_matters}
 use Rattle.rules_machine.specs.Runs.{Ran, opening, ticks}
 use Rattle.rules_machine.specs.State.{Machine}
-use Rattle.rules_machine.specs.Turns.{turn_of}
 use Rattle.rules_machine.specs.WellFormed.{IsWellFormed}
 use Rattle.rules_machine.proofs.Joined.{ticks_add}
 use Rattle.rules_flat_code.specs.FlatBodies.{code_of, flat_bodies}
@@ -23,10 +22,9 @@ use Rattle.laws_leaps.proofs.Leaps.Counts.{eventful_later}
 use Rattle.laws_leaps.proofs.Leaps.Lengths.{IsReady}
 use Rattle.laws_leaps.proofs.Leaps.Scripts.{stays_ready}
 use Rattle.laws_detail.specs.Looks.{facts_told, facts_told_from}
-use Rattle.laws_detail.specs.Rests.{BeginsPlainly}
-use Rattle.laws_detail.proofs.Rest.{none_changed, rests, stays}
+use Rattle.laws_detail.proofs.Rest.{none_changed, rests}
 use Rattle.laws_kernel.proofs.Ranges.{flat_bodies_fit}
-use Rattle.kernel_leaps.specs.Detail.{IsAfterQuietTick, StayIfQuiet}
+use Rattle.kernel_leaps.specs.Detail.{IsAfterQuietTick}
 use Rattle.kernel_leaps.proofs.TellingFacts.{shown_here}
 
 -- the facts of an instant stay for so many ticks
@@ -127,23 +125,3 @@ module _ (script : Script) (fits : IsWellFormed script) (n : ℕ) (after : IsAft
         ∙ rests q then' ready.still ready.handled script j quiet (suc i) (omega arith) (omega arith)
         ∙ sym (later 1)
         ∙ ap (λ (k : ℕ). facts script (shown_machine script k)) on
-
-  -- and where the tick that led to it began plainly, its facts are those before it
-  first_stays : BeginsPlainly (instant q (turn_of then')).machine → next_item now ≡ None → facts script (shown_machine script n) ≡ facts script (machine_before script n)
-  first_stays plain none =
-      let one : IsQuiet q 1 then' = λ i low high. (let it : 1 ≡ i = omega (arith, low, high) in ap (is_eventful q then') (sym it) ∙ first_calm none) in
-      let before_ready = stays_ready q (flat_bodies_fit script fits.priorities) script fits before in
-      ap (λ (k : ℕ). facts script (shown_machine script k)) (sym on)
-      ∙ sym (shown_here script (before + 1))
-      ∙ ap (λ (r : Ran Cursor). facts script (shown_of q r.machine)) (ticks_add q before 1 (opening script))
-      ∙ stays q then' before_ready.still before_ready.handled script plain one
-      ∙ shown_here script before
-      ∙ ap (λ (k : ℕ). facts script (machine_before script k)) (sym after.is)
-
--- the same, from the instant before
-pub next_stays : (script : Script) → IsWellFormed script → (n : ℕ)
-    → BeginsPlainly (instant (flat_bodies (code_of script)) (turn_of (ticks (flat_bodies (code_of script)) n (opening script)).machine)).machine → StayIfQuiet script (n + 1)
-next_stays script fits n plain after =
-    let bodies = flat_bodies (code_of script) in
-    let is : n ≡ after.before = (let same = after.is in omega (arith, same)) in
-    first_stays script fits (n + 1) after (subst (λ (k : ℕ). BeginsPlainly (instant bodies (turn_of (ticks bodies k (opening script)).machine)).machine) is plain)

@@ -36,7 +36,7 @@ use Rattle.kernel_looks.proofs.Changing.{texts_are}
 use Rattle.laws_kernel.specs.Counts.{Counts}
 use Rattle.kernel_state.specs.Kernel.{opened}
 use Rattle.calls_table.specs.Calls.{objects_in}
-use Rattle.kernel_leaps.specs.Detail.{AreBefore, AreReady, StayIfQuiet}
+use Rattle.kernel_leaps.specs.Detail.{AreBefore, AreReady, StayIfIdle}
 use Rattle.kernel_leaps.specs.Fits.{Fits}
 use Rattle.kernel_leaps.specs.declared.fact_texts.FactTexts.{FactTexts}
 use Rattle.kernel_leaps.proofs.Opened.{script_fits}
@@ -118,7 +118,7 @@ module _ (script : Script) (ok : IsRunnable script) (fits : IsWellFormed script)
 
   -- what is told before a later one, where the facts stay up to it
   pub before_later : (j : ℕ) → facts script (machine_before script (n + j)) ≡ facts script (shown_machine script n) → (new : FactTexts) → new.desk.subjects.texts ≡ old.desk.subjects.texts
-      → new.desk.told.texts ≡ texts_of script.decls (facts script (shown_machine script n)) → AreReady script new → (new.are_steady ≡ true → StayIfQuiet script (n + j)) → AreBefore script (n + j) new
+      → new.desk.told.texts ≡ texts_of script.decls (facts script (shown_machine script n)) → AreReady script new → (new.are_steady ≡ true → StayIfIdle script (n + j)) → AreBefore script (n + j) new
   before_later j stay new subjects told ready steady = record {
     subjects =
         subjects ∙ before.subjects

@@ -18,23 +18,26 @@ use Rattle.rules_leaps.specs.Leap.{leap_length, leap_runs}
 use Rattle.rules_facts.specs.Facts.{facts}
 use Rattle.rules_facts.specs.Shown.{once_ended}
 use Rattle.script_printer.specs.Puts.{Put}
-use Rattle.laws_detail.specs.Rests.{BeginsPlainly}
+use Rattle.parts_texts.specs.Texts.{Next}
+use Rattle.kernel_looks.specs.Desk.{IsReady}
+use Rattle.laws_detail.specs.Rests.{BeginsPlainly, OnlyTakeTime}
 use Rattle.script_printer.specs.Puts as printer
 use Rattle.script_printer.proofs.Puts.{put_same}
 use Rattle.kernel_facts.specs.Changed.{changed_lines}
 use Rattle.kernel_facts.specs.Kept.{texts_of}
 use Rattle.kernel_state.specs.Kernel.{Kernel, after, opened, told, turn}
 use Rattle.kernel_state.specs.Stood.{StoodRight}
-use Rattle.kernel_leaps.specs.Detail.{AreBefore, GoesOn, HasGoneOn, AreReady, IsAfterQuietTick, StayIfQuiet, Stops, Writes}
+use Rattle.kernel_leaps.specs.Detail.{AreBefore, GoesOn, HasGoneOn, AreReady, IsAfterQuietTick, StayIfIdle, Stops, Writes}
 use Rattle.kernel_leaps.specs.Ran.{ticked_by}
 use Rattle.kernel_leaps.specs.declared.detail.Reached.{Reached}
 use Rattle.kernel_leaps.specs.declared.fact_texts.FactTexts.{FactTexts}
 use Rattle.kernel_leaps.proofs.Prepared.{kernel_prepared, stands_prepared}
-use Rattle.kernel_leaps.proofs.Resting.{StayFor, facts_before, next_stays, one_stays, stay_calm, told_stays}
-use Rattle.kernel_leaps.proofs.Telling.{leap_here, m, now_of, p, q, ready, to}
+use Rattle.kernel_leaps.proofs.Resting.{StayFor, facts_before, one_stays, stay_calm, told_stays}
+use Rattle.kernel_leaps.proofs.Telling.{leap_here, leap_state, m, now_of, p, q, ready, to}
 use Rattle.kernel_leaps.proofs.TellingLeap.{ends_at_item, leaps_on, stops_at_once}
 use Rattle.kernel_leaps.proofs.TellingPieces.{dispatch_written, ends_there, goes_on, is_handled, is_prepared, items_written, lives}
 use Rattle.kernel_leaps.proofs.TellingTexts.{changes_are, told_later}
+use Rattle.kernel_leaps.proofs.TimeTaken.{stays_behind}
 use Rattle.kernel_leaps.proofs.TellingTick.{changes, dispatch, ends, items, only_items, stops_at_changes, stops_at_dispatch, stops_at_end, stops_at_items, whole_leap}
 
 pub no_signal : (o : Option ℕ) → is_some o ≡ false → o ≡ None
@@ -140,11 +143,13 @@ module _ (script : Script) (fits : IsWellFormed script) (at : Reached) (start : 
                     stay_calm script fits at.done (after_quiet e) (sym (ap (λ (x : Kernel). next_item x.machine) in_run) ∙ idle e) j (leap_here script fits at.done alive runs j one long)
                 by_calm false e = subst (StayFor script at.done) (sym (once e)) (one_stays script at.done)
 
-            -- and one tick from where it begins plainly they stay, where it is a quiet one
-            stays_then : calm ≡ false → BeginsPlainly handled.machine → StayIfQuiet script (at.done + j)
-            stays_then eventful plain =
-                subst (λ (i : ℕ). StayIfQuiet script (at.done + i)) (sym (once eventful))
-                (next_stays script fits at.done (subst (λ (k : Kernel). BeginsPlainly k.machine) (is_handled script fits at.done start in_run handled state) plain))
+            -- and behind it they stay, where it begins plainly and only takes time
+            stays_then : (left : Kernel) → left ≡ after (leap_runs (flat_bodies (p script fits at.done).code) j (to script fits at.done)) (p script fits at.done) → left.direct ≡ []
+                → BeginsPlainly handled.machine → ((t : ℕ) → to script fits at.done ≡ Some t → OnlyTakeTime (q script fits at.done) j t (p script fits at.done).machine) → StayIfIdle script (at.done + j)
+            stays_then left leap quiet plain only none =
+                stays_behind script fits at.done runs (subst (λ (k : Kernel). BeginsPlainly k.machine) (is_handled script fits at.done start in_run handled state) plain)
+                (subst (λ (k : Kernel). k.direct ≡ []) there prepared_quiet) j only left leap (leap_state script fits at.done alive runs j one long left leap quiet) none
+                ∙ sym (facts_before script at.done j stays one)
 
             pub leap_stops : (e : K) (y : Bool) → y ≡ true → Writes text faults d e y (ends script fits at.done j) → Stops text faults script at a e
             leap_stops e y failed fourth = record {
@@ -155,10 +160,13 @@ module _ (script : Script) (fits : IsWellFormed script) (at : Reached) (start : 
 
             pub leap_goes : (e : K) → Writes text faults d e false (ends script fits at.done j) → (left : Kernel) → left ≡ after (leap_runs (flat_bodies (p script fits at.done).code) j (to script fits at.done)) (p script fits at.done)
                 → left.direct ≡ [] → StoodRight left.machine → (is_quiet : Bool) → (is_quiet ≡ true → j ≡ 1) → (is_quiet ≡ true → IsAfterQuietTick script (at.done + 1))
-                → (look.are_steady ≡ true → calm ≡ false) → (look.are_steady ≡ true → BeginsPlainly handled.machine)
-                → HasGoneOn text faults script at (record { done = at.done + j; left = at.left - j; is_quiet = is_quiet }) left look a e
-            leap_goes e fourth left leap quiet stood is_quiet single tick eventful plain =
-                leaps_on text faults script at fits alive runs j one within long left leap quiet stood is_quiet look a e
+                → (new : FactTexts) → new.desk ≡ look.desk → new.next ≡ look.next
+                → (new.are_steady ≡ true → BeginsPlainly handled.machine) → (new.are_steady ≡ true → (t : ℕ) → to script fits at.done ≡ Some t → OnlyTakeTime (q script fits at.done) j t (p script fits at.done).machine)
+                → HasGoneOn text faults script at (record { done = at.done + j; left = at.left - j; is_quiet = is_quiet }) left new a e
+            leap_goes e fourth left leap quiet stood is_quiet single tick new desk next plain only =
+                leaps_on text faults script at fits alive runs j one within long left leap quiet stood is_quiet new a e
                 (whole_leap script fits at.done alive text faults runs a b c v w good (items_are text faults some a b v first) dispatch_is fine d x changes_is sound j one long (told_stays script at.done j stays one) e false fourth)
-                (told_later script ok fits at.done old look handled (is_handled script fits at.done start in_run handled state) signals kept subjects was is_ready j (facts_before script at.done j stays one) (λ steady. stays_then (eventful steady) (plain steady)))
+                (told_later script ok fits at.done old new handled (is_handled script fits at.done start in_run handled state) signals (ap (λ d. d.told.texts) desk ∙ kept) (ap (λ d. d.subjects) desk ∙ subjects) was
+                (record { desk = subst (λ d. IsReady script new.next.room d) (sym desk) (subst (λ (x : Next). IsReady script x.room look.desk) (sym next) is_ready.desk) }) j (facts_before script at.done j stays one)
+                (λ steady. stays_then left leap quiet (plain steady) (only steady)))
                 (λ e'. subst (λ (i : ℕ). IsAfterQuietTick script (at.done + i)) (sym (single e')) (tick e'))

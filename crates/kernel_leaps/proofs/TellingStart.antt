@@ -19,14 +19,14 @@ use Rattle.kernel_leaps.proofs.TellingRun.{Telling, ended_state, ended_told, goe
 
 -- the texts of the facts before the first tick
 pub are_first : (script : Script) (k : Kernel) → k ≡ opened script → (new : FactTexts) → new.desk.subjects.texts ≡ subjects_of script.decls (facts script k.machine)
-    → new.desk.told.texts ≡ texts_of script.decls (facts script (once_ended k.machine.killed k.machine)) → length k.machine.actions ≡ 32 → AreReady script new → AreBefore script 0 new
-are_first script k is new subjects told signals ready = record {
+    → new.desk.told.texts ≡ texts_of script.decls (facts script (once_ended k.machine.killed k.machine)) → length k.machine.actions ≡ 32 → AreReady script new → new.are_steady ≡ false → AreBefore script 0 new
+are_first script k is new subjects told signals ready unsteady = record {
   subjects = subjects ∙ ap (subjects_of script.decls) (ap (λ (x : Kernel). facts script x.machine) is ∙ opened_facts script);
   told = told ∙ ap (texts_of script.decls) (ap (λ (x : Kernel). facts script (once_ended x.machine.killed x.machine)) is ∙ opened_facts script);
   same = refl;
   signals = sym (ap (λ (x : Kernel). length x.machine.actions) is) ∙ signals;
   ready = ready;
-  steady = λ e after. absurd (let first = after.is in omega (arith, first));
+  steady = λ e. absurd (cc);
 }
 
 -- nothing is told yet

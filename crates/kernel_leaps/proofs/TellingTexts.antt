@@ -11,7 +11,7 @@ use Rattle.laws_detail.specs.Looks.{facts_told}
 use Rattle.kernel_facts.specs.Changed.{changed_lines}
 use Rattle.kernel_facts.specs.Kept.{texts_of}
 use Rattle.kernel_state.specs.Kernel.{Kernel}
-use Rattle.kernel_leaps.specs.Detail.{AreBefore, AreReady, IsAfterQuietTick, StayIfQuiet}
+use Rattle.kernel_leaps.specs.Detail.{AreBefore, AreReady, StayIfIdle}
 use Rattle.kernel_leaps.specs.declared.fact_texts.FactTexts.{FactTexts}
 use Rattle.kernel_leaps.proofs.Telling.{l, m}
 use Rattle.kernel_leaps.proofs.TellingFacts.{before_later, changed_now, shown_here}
@@ -33,13 +33,13 @@ module _ (script : Script) (ok : IsRunnable script) (fits : IsWellFormed script)
   changes_are = changed_now script ok fits n old before here new.desk.told.texts told
 
   -- and what is told before a later instant, where the facts stay up to it
-  pub told_later : (j : ℕ) → facts script (machine_before script (n + j)) ≡ facts script (shown_machine script n) → (new.are_steady ≡ true → StayIfQuiet script (n + j)) → AreBefore script (n + j) new
+  pub told_later : (j : ℕ) → facts script (machine_before script (n + j)) ≡ facts script (shown_machine script n) → (new.are_steady ≡ true → StayIfIdle script (n + j)) → AreBefore script (n + j) new
   told_later j stay steady = before_later script ok fits n old before here j stay new (ap (λ t. t.texts) subjects) told ready steady
 
--- what was told of a steady state is told of the next instant too, where that is no eventful one
+-- what was told of facts that are steady is told of the next instant too, where nothing is due at it
 pub told_again : (script : Script) (fits : IsWellFormed script) (n : ℕ) (handled : Kernel) → handled ≡ l script fits n → (t : FactTexts) → AreBefore script n t → t.are_steady ≡ true
-    → IsAfterQuietTick script n → next_item (m script fits n) ≡ None → t.desk.told.texts ≡ texts_of script.decls (facts script (once_ended handled.machine.killed handled.machine))
-told_again script fits n handled is t before steady after none =
+    → next_item (m script fits n) ≡ None → t.desk.told.texts ≡ texts_of script.decls (facts script (once_ended handled.machine.killed handled.machine))
+told_again script fits n handled is t before steady none =
     before.told
-    ∙ ap (texts_of script.decls) (sym (before.steady steady after none) ∙ sym (shown_here script n))
+    ∙ ap (texts_of script.decls) (sym (before.steady steady none) ∙ sym (shown_here script n))
     ∙ ap (λ (x : Kernel). texts_of script.decls (facts script (once_ended x.machine.killed x.machine))) (sym is)

@@ -44,9 +44,9 @@ pub record IsAfterQuietTick (script : Script) (n : ℕ) : Type 0 where
   pub is : n ≡ suc before
   pub quiet : next_tick_matters (flat_bodies (code_of script)) (ticks (flat_bodies (code_of script)) before (opening script)).machine ≡ false
 
--- Where the tick that led to an instant of a run was a quiet one, and nothing is due there, its facts are those before it.
-abbrev pub StayIfQuiet : Script → ℕ → Type 0
-StayIfQuiet script n = IsAfterQuietTick script n → next_item (ticks (flat_bodies (code_of script)) n (opening script)).machine ≡ None
+-- Where nothing is due at an instant of a run, its facts are those before it.
+abbrev pub StayIfIdle : Script → ℕ → Type 0
+StayIfIdle script n = next_item (ticks (flat_bodies (code_of script)) n (opening script)).machine ≡ None
     → facts script (shown_machine script n) ≡ facts script (machine_before script n)
 
 -- ---- the texts of the facts
@@ -67,8 +67,8 @@ pub record AreBefore (script : Script) (n : ℕ) (t : FactTexts) : Type 0 where
   pub same : HaveSameSubjects script.decls (facts script (machine_before script n)) (facts script (opening {P = Place} script))
   pub signals : length (actions_of script) ≡ 32
   pub ready : AreReady script t
-  -- and where they are steady, they are those of the facts at it too, unless it is an eventful instant
-  pub steady : t.are_steady ≡ true → StayIfQuiet script n
+  -- and where they are steady, they are those of the facts at it too, unless something is due there
+  pub steady : t.are_steady ≡ true → StayIfIdle script n
 
 -- ---- how many steps are left
 

@@ -16,6 +16,7 @@ ghost use Rattle.rules_flat_code.specs.FlatBodies.{flat_bodies};
 ghost use Rattle.rules_flat_code.specs.Runnable.{IsRunnable};
 ghost use Rattle.parts_tracer.specs.Printed.{Printed, outlet};
 ghost use Rattle.parts_tracer.specs.Tells.{Tells};
+ghost use Rattle.laws_detail.specs.Rests.{OnlyTakeTime};
 ghost use Rattle.calls_table.specs.Calls.{objects_in};
 ghost use Rattle.kernel_leaps.specs.Detail.{AreBefore, HasGoneOn, HaveRoomsFor, IsAfterQuietTick, Stops, Writes, steps_left, told_by};
 ghost use Rattle.kernel_leaps.specs.Fits.{ItemsFit, StaysFit};
@@ -66,17 +67,22 @@ fn write_dispatch<K: Sink>(p: &mut Parts, sink: &mut K) -> (Option<Tid>, bool)
     (to, out.failed())
 }
 
-// Whether the instant is no eventful one: nothing is due at it, and the tick that led to it was a quiet one.
-fn is_calm(p: &mut Parts, is_after_quiet: bool) -> bool
-    ensures after { result ≡ true → is_after_quiet ≡ true }
+// Whether nothing is due at the instant.
+fn is_idle(p: &mut Parts) -> bool
     ensures idle { result ≡ true → next_item p.old.machine ≡ None }
-    ensures whenever { result ≡ (is_after_quiet && not (has_item p.old.machine)) }
+    ensures whenever { result ≡ not (has_item p.old.machine) }
     ensures same { p.new ≡ p.old }
 {
-    if !is_after_quiet {
-        return false;
-    }
     p.next_item().is_none()
+}
+
+// Whether the instant is no eventful one: the tick that led to it was a quiet one, and nothing is due at it.
+fn is_calm(is_after_quiet: bool, is_idle: bool) -> bool
+    ensures after { result ≡ true → is_after_quiet ≡ true }
+    ensures idle { result ≡ true → is_idle ≡ true }
+    ensures whenever { result ≡ (is_after_quiet && is_idle) }
+{
+    is_after_quiet && is_idle
 }
 
 // How many ticks may follow at once: one, or where the facts rest from here on all that are left.
@@ -118,6 +124,7 @@ fn leap_in_unit<K: Sink, L: Ledger>(
     ensures quiet_tick { result.is_quiet ≡ true → near ≤ 1 → IsQuietTick (flat_bodies p.old.code) p.old.machine.quantum (thread_at p.old.machine t) }
     ensures each_quiet_tick { near ≤ 1 → is_blocked (thread_at p.old.machine t).status ≡ false
         → IsQuietTick (flat_bodies p.old.code) p.old.machine.quantum (thread_at p.old.machine t) → result.is_quiet ≡ true }
+    ensures still { result.is_still ≡ true → OnlyTakeTime (flat_bodies p.old.code) result.ticks t p.old.machine }
     ensures step { steps.new ≡ steps.old + 1 }
 {
     leap_thread::<K, L, 1>(p, t, near, out, steps)
@@ -143,6 +150,7 @@ fn write_ticks<K: Sink, L: Ledger>(
     ensures quiet_tick { result.0.is_quiet ≡ true → near ≤ 1 → IsQuietTick (flat_bodies p.old.code) p.old.machine.quantum (thread_at p.old.machine t) }
     ensures each_quiet_tick { near ≤ 1 → is_blocked (thread_at p.old.machine t).status ≡ false
         → IsQuietTick (flat_bodies p.old.code) p.old.machine.quantum (thread_at p.old.machine t) → result.0.is_quiet ≡ true }
+    ensures still { result.0.is_still ≡ true → OnlyTakeTime (flat_bodies p.old.code) result.0.ticks t p.old.machine }
     ensures step { steps.new ≡ steps.old + 1 }
 {
     let mut out = Tracer::new(sink);
@@ -210,14 +218,15 @@ pub(crate) fn tell_leap<K: Sink, L: Ledger>(
     ensures step { steps.new ≤ steps.old + 1 }
     ensures steps { IfSome result (λ r. p.new.machine.killed ≡ None → steps.new + steps_left script.now r ≤ steps.old + steps_left script.now reached) }
 {
-    let calm = is_calm(p, reached.is_quiet);
+    let idle = is_idle(p);
+    let calm = is_calm(reached.is_quiet, idle);
     if write_items(p, sink) {
         return None;
     }
     if p.is_killed() {
         return Some(reached.after(1, false));
     }
-    texts.look(p, script, calm);
+    texts.look(p, script, idle);
     let (to, failed) = write_dispatch(p, sink);
     if failed {
         return None;
@@ -228,15 +237,16 @@ pub(crate) fn tell_leap<K: Sink, L: Ledger>(
     let most = most_at_once(reached.left, calm);
     let near = p.ticks_to_next(most);
     let Some(t) = to else {
-        let idle = near.max(1);
-        p.leap(idle, steps);
-        return Some(reached.after(idle, !calm));
+        let ticks = near.max(1);
+        p.leap(ticks, steps);
+        return Some(reached.after(ticks, !calm));
     };
     let at_once = ticks_in_unit(p, t, near);
     let (passed, failed) = write_ticks(p, t, at_once, sink, steps);
     if failed {
         return None;
     }
+    texts.follow(passed.is_still);
     Some(reached.after(passed.ticks, is_quiet_tick(passed, calm)))
 }
 

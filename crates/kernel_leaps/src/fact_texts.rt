@@ -1,5 +1,5 @@
 //! The texts of the facts of a run, as they are told instant by instant.
-ghost use Rattle.std.specs.Prelude.{◌≡◌, IfOk, ℕ, false, length, true};
+ghost use Rattle.std.specs.Prelude.{◌≡◌, ◌&&◌, IfOk, ℕ, false, length, true};
 ghost use Rattle.words_script.specs.declared.name_kind.NameKind.TheVariants as kind;
 ghost use Rattle.script_writer.specs.Names.{names_of};
 ghost use Rattle.rules_machine.specs.declared.dispatch.LastDispatch.TheVariants as last;
@@ -38,7 +38,7 @@ pub struct FactTexts {
     desk: Desk,
     // one text, before it takes its place
     next: NextText,
-    // whether a quiet tick from the state that was looked at last leaves its facts as they are
+    // whether the facts stay as they were told, unless something falls due: the ticks from there on begin plainly and only take time
     are_steady: bool,
 }
 
@@ -72,40 +72,48 @@ impl FactTexts {
         ensures told { self.new.desk.told.texts ≡ texts_of script.now.decls (facts script.now (once_ended parts.now.machine.killed parts.now.machine)) }
         ensures signals { length parts.now.machine.actions ≡ 32 }
         ensures ready { AreReady script.now self.new }
+        ensures unsteady { self.new.are_steady ≡ false }
     {
         // so it is known that there are 32
         let _signals = parts.signal_count();
         self.desk.subjects.clear();
         keep_subjects(parts, script, &mut self.next, &mut self.desk.subjects);
         look_at_facts(parts, script, &mut self.next, &mut self.desk);
+        self.are_steady = false;
     }
 
-    /// Takes in what is told of a state, and the lines of the facts that tell something else now than was told before. A calm instant is
-    /// not looked at where the one before was steady: they tell the same.
-    pub(crate) fn look(&mut self, parts: &Parts, script: &Script, calm: bool)
+    /// Takes in what is told of a state, and the lines of the facts that tell something else now than was told before. An instant at which
+    /// nothing is due is not looked at where the facts are steady: they tell the same.
+    pub(crate) fn look(&mut self, parts: &Parts, script: &Script, is_idle: bool)
         requires numbered { AreNumbered script.now parts.now.machine }
         requires objects { HasObjectsOf script.now parts.now.machine }
         requires named { parts.now.names ≡ names_of kind.Thread script.now.decls }
         requires ready { AreReady script.now self.old }
         requires latest { (u : ℕ) → has_run (thread_at parts.now.machine u).server ≡ true → parts.now.machine.last ≡ last.Ran u }
-        requires same { calm ≡ true → self.old.are_steady ≡ true
+        requires same { is_idle ≡ true → self.old.are_steady ≡ true
             → self.old.desk.told.texts ≡ texts_of script.now.decls (facts script.now (once_ended parts.now.machine.killed parts.now.machine)) }
         ensures told { self.new.desk.told.texts ≡ texts_of script.now.decls (facts script.now (once_ended parts.now.machine.killed parts.now.machine)) }
         ensures lines { self.new.desk.lines.text ≡ changed_lines parts.now.machine.now self.old.desk.subjects.texts self.old.desk.told.texts self.new.desk.told.texts }
         ensures subjects { self.new.desk.subjects ≡ self.old.desk.subjects }
         ensures signals { length parts.now.machine.actions ≡ 32 }
         ensures ready { AreReady script.now self.new }
-        ensures once { self.new.are_steady ≡ true → calm ≡ false }
         ensures steady { self.new.are_steady ≡ true → BeginsPlainly parts.now.machine }
     {
         // so it is known that there are 32
         let _signals = parts.signal_count();
-        if calm && self.are_steady {
+        if is_idle && self.are_steady {
             self.desk.lines.clear();
         } else {
             look_at_facts(parts, script, &mut self.next, &mut self.desk);
         }
-        self.are_steady = !calm && begins_plainly(parts);
+        self.are_steady = begins_plainly(parts);
+    }
+
+    /// Ticks follow the state that was looked at last: the facts are steady only where these only take time.
+    pub(crate) fn follow(&mut self, only_take_time: bool)
+        ensures { self.new ≡ record self.old { are_steady = self.old.are_steady && only_take_time } }
+    {
+        self.are_steady = self.are_steady && only_take_time;
     }
 
     /// Writes the lines of the facts that changed, and answers whether a write failed.

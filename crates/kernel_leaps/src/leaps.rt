@@ -1,14 +1,17 @@
 //! Leaps.
-ghost use Rattle.std.specs.Prelude.{◌≡◌, ◌≤◌, ◌<◌, ◌+◌, ◌-◌, ◌^◌, ◌==◌, [], false, length, true};
+ghost use Rattle.std.specs.Prelude.{◌≡◌, ◌≤◌, ◌<◌, ◌+◌, ◌-◌, ◌^◌, ◌&&◌, [], false, length, not, true};
 ghost use Rattle.parts_tracer.specs.Tells.{Tells};
-ghost use Rattle.rules_machine.specs.Eventful.{tick_matters};
 ghost use Rattle.rules_machine.specs.Runs.{ticks};
-ghost use Rattle.rules_machine.specs.Threads.{is_blocked, thread_at, top_left};
+ghost use Rattle.rules_machine.specs.Threads.{is_blocked, thread_at};
 ghost use Rattle.rules_flat_code.specs.FlatBodies.{flat_bodies};
 ghost use Rattle.rules_leaps.specs.Leap.{in_leaps};
+ghost use Rattle.script_code.specs.Fetched.{unit_of};
+ghost use Rattle.laws_detail.specs.Rests.{OnlyTakeTime};
 ghost use Rattle.calls_table.specs.Calls.{objects_in};
+ghost use Rattle.kernel_threads.specs.Lasting.{used_up};
+ghost use Rattle.kernel_threads.specs.Running.{only_takes_time};
 ghost use Rattle.kernel_leaps.specs.Fits.{StaysFit};
-ghost use Rattle.kernel_leaps.specs.Passing.{HasLeapt, IsQuietTick, MayLeapOn};
+ghost use Rattle.kernel_leaps.specs.Passing.{HasLeapt, IsQuietTick, MayLeapOn, PassesNoUnit};
 ghost use Rattle.kernel_state.specs.Stood.{StoodRight};
 
 use crate::instant::do_instant;
@@ -20,6 +23,7 @@ use kernel_threads::{Ran, TickEnd};
 use parts_io::Sink;
 use parts_steps::Steps;
 use parts_tracer::Tracer;
+use script_code::Fetched;
 use std::sync::ledger::Ledger;
 use words_numbers::Tid;
 
@@ -30,22 +34,44 @@ pub(crate) struct Passed {
     pub(crate) ticks: u64,
     /// Whether the last of them neither completed a unit nor used up an interval or a capacity.
     pub(crate) is_quiet: bool,
+    /// Whether they only took time: the unit does nothing at its end, and they used up neither an interval nor a capacity.
+    pub(crate) is_still: bool,
 }
 
-// Whether the tick that a thread has run neither completed a unit nor used up its interval or its capacity.
+// Whether what a thread has run used up neither its interval nor its capacity.
 #[inline(always)]
-fn ends_quietly(p: &Parts, t: Tid, ran: &Ran) -> bool
+fn uses_up_nothing(p: &Parts, t: Tid, was_high: bool) -> bool
     requires known { t < length p.now.names }
-    requires complete { ran.now.is_complete ≡ (top_left (thread_at p.now.machine t).frames == 0) }
-    ensures sure { result ≡ true → tick_matters ran.now.was_high p.now.machine.quantum (thread_at p.now.machine t) ≡ false }
+    ensures sure { result ≡ true → used_up was_high p.now.machine.quantum (thread_at p.now.machine t) ≡ false }
     ensures whenever { is_blocked (thread_at p.now.machine t).status ≡ false
-        → tick_matters ran.now.was_high p.now.machine.quantum (thread_at p.now.machine t) ≡ false → result ≡ true }
+        → used_up was_high p.now.machine.quantum (thread_at p.now.machine t) ≡ false → result ≡ true }
 {
-    if ran.is_complete || (ran.was_high && p.thread(t).capacity_left() == 0) {
+    if was_high && p.thread(t).capacity_left() == 0 {
         return false;
     }
-    match p.tick_end(t, ran.was_high) {
+    match p.tick_end(t, was_high) {
         TickEnd::Nothing => true,
+        _ => false,
+    }
+}
+
+// Whether what a thread has run neither completed its unit nor used anything up.
+#[inline(always)]
+fn ended_quietly(ran: &Ran, saves: bool) -> bool
+    ensures { result ≡ (saves && not ran.now.is_complete) }
+{
+    saves && !ran.is_complete
+}
+
+// Whether what a thread has run did no more than take time: its unit does nothing at its end, and nothing is used up.
+#[inline(always)]
+fn only_took_time(p: &Parts, ran: &Ran, saves: bool) -> bool
+    ensures { result ≡ (saves && only_takes_time (unit_of p.now.code ran.now.unit)) }
+{
+    // the clause alone speaks of it
+    let _ = p;
+    match ran.unit {
+        Fetched::Run(_) | Fetched::Jump => saves,
         _ => false,
     }
 }
@@ -70,9 +96,12 @@ pub(crate) fn leap_thread<K: Sink, L: Ledger, const WAY: usize>(
     ensures quiet_tick { result.is_quiet ≡ true → near ≤ 1 → IsQuietTick (flat_bodies p.old.code) p.old.machine.quantum (thread_at p.old.machine t) }
     ensures each_quiet_tick { near ≤ 1 → is_blocked (thread_at p.old.machine t).status ≡ false
         → IsQuietTick (flat_bodies p.old.code) p.old.machine.quantum (thread_at p.old.machine t) → result.is_quiet ≡ true }
+    ensures still { result.is_still ≡ true → PassesNoUnit near t p.old → OnlyTakeTime (flat_bodies p.old.code) result.ticks t p.old.machine }
 {
     let ran = run_thread(p, t, near, steps);
-    let is_quiet = ends_quietly(p, t, &ran);
+    let saves = uses_up_nothing(p, t, ran.was_high);
+    let is_quiet = ended_quietly(&ran, saves);
+    let is_still = only_took_time(p, &ran, saves);
     complete_at_end::<K, WAY>(p, t, &ran, out);
     p.settle();
     end_tick(p, ran.was_high, t, out);
@@ -80,6 +109,7 @@ pub(crate) fn leap_thread<K: Sink, L: Ledger, const WAY: usize>(
     Passed {
         ticks: ran.passed + ran.ticks,
         is_quiet,
+        is_still,
     }
 }
 

@@ -9,7 +9,6 @@ use Rattle.words_script.specs.declared.policy.Policy.{Policy}
 use Rattle.words_script.specs.declared.policy.Policy.TheVariants as policy
 use Rattle.words_trace.specs.Text.{Entry}
 use Rattle.rules_bodies.specs.Next.{Place}
-use Rattle.rules_server.specs.declared.Replenish.{Replenish}
 use Rattle.rules_server.specs.Server.{ServerState, assigned, charge_ticks, is_high}
 use Rattle.rules_server.proofs.Laws.{charge_ticks_is}
 use Rattle.rules_machine.specs.Bodies.{Bodies}
@@ -17,7 +16,7 @@ use Rattle.rules_machine.specs.Dispatch.{head}
 use Rattle.rules_machine.specs.DueItems.{instant, item_bound, next_item}
 use Rattle.rules_machine.specs.Lists.{changed_at, is}
 use Rattle.rules_machine.specs.Priorities.{assigned_under}
-use Rattle.rules_machine.specs.Servers.{has_high, has_run}
+use Rattle.rules_machine.specs.Servers.{has_high}
 use Rattle.rules_machine.specs.State.{Frame, Machine, Thread, Wait, Waiting}
 use Rattle.rules_machine.specs.Threads.{is_main, no_thread, thread_at, thread_in, waiting_in}
 use Rattle.rules_machine.specs.Ticks.{capacity_in, prepares, unless_killed}
@@ -33,7 +32,7 @@ use Rattle.rules_moves.proofs.Waiters.OfThreads.{changed_is}
 use Rattle.laws_machine.proofs.Lists.Kept.{Plans, in_unit_plans}
 use Rattle.laws_machine.proofs.Lists.Places.{Stand}
 use Rattle.rules_leaps.specs.Leap.{leap, leap_head, leap_runs}
-use Rattle.rules_leaps.specs.Quiet.{IsHandled, after_ticks, frames_after, server_after}
+use Rattle.rules_leaps.specs.Quiet.{IsHandled, frames_after, server_after}
 use Rattle.laws_leaps.proofs.Quiet.AnyMachine.{handled_of}
 use Rattle.laws_leaps.proofs.Quiet.Events.{nothing_more}
 use Rattle.laws_leaps.proofs.Quiet.Once.{less_high}
@@ -188,10 +187,10 @@ module _ (bodies : Bodies Place) (script : Script) (m : Machine Place) (handled 
   alive_stays alive none =
       let left = (leap bodies k (turn_of m)).machine in
       let there : left ≡ (leap_runs bodies k (head m) (turn_of begun.machine)).machine =
-          ap (λ (s : Turn Place). (unless_killed s.machine.killed (leap_head bodies k) s).machine) (nothing_due m h.nothing)
-          ∙ ap (λ (o : Option ℕ). (unless_killed o (leap_head bodies k) (turn_of m)).machine) alive
-          ∙ ap (λ (s : Turn Place). (leap_runs bodies k (head m) s).machine) begun_is
-          ∙ ap (λ (s : Turn Place). s.machine) (leap_runs_behind bodies k (head m) begun.events (turn_of begun.machine)) in
+      ap (λ (s : Turn Place). (unless_killed s.machine.killed (leap_head bodies k) s).machine) (nothing_due m h.nothing)
+      ∙ ap (λ (o : Option ℕ). (unless_killed o (leap_head bodies k) (turn_of m)).machine) alive
+      ∙ ap (λ (s : Turn Place). (leap_runs bodies k (head m) s).machine) begun_is
+      ∙ ap (λ (s : Turn Place). s.machine) (leap_runs_behind bodies k (head m) begun.events (turn_of begun.machine)) in
       let behind' = leap_tells_nothing bodies script m h plain alive k (head m) refl only in
       let living : left.killed ≡ None = ap (λ (x : Machine Place). x.killed) there ∙ behind'.alive in
       ap (facts script) (shown left none ∙ ap (λ (o : Option ℕ). once_ended o left) living ∙ there)

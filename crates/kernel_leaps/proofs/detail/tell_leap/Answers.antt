@@ -19,6 +19,8 @@ use Rattle.kernel_leaps.specs.Fits.{StaysFit}
 use Rattle.kernel_leaps.specs.Detail.{is_rest, steps_left}
 use Rattle.kernel_leaps.specs.Passing.{IsQuietTick, PassesNoUnit, leap_of}
 use Rattle.kernel_leaps.specs.declared.detail.Reached.{Reached}
+use Rattle.kernel_leaps.specs.declared.fact_texts.FactTexts.{FactTexts}
+use Rattle.laws_detail.specs.Rests.{OnlyTakeTime}
 use Rattle.kernel_leaps.proofs.AtHead.{after_idle, after_thread, alone, long_by_thread, long_idle, thread_quiet, thread_runs, whole_idle, whole_thread}
 use Rattle.kernel_leaps.proofs.Fitting.{instant_fits}
 use Rattle.kernel_leaps.proofs.InUnit.{most_near}
@@ -27,7 +29,7 @@ use Rattle.kernel_leaps.proofs.Midst.{midst}
 use Rattle.kernel_leaps.proofs.Running.{items_fit}
 use Rattle.kernel_leaps.proofs.Shown.{named, numbered}
 use Rattle.kernel_leaps.proofs.StepsLeft.{first_step, quiet_tick, rest_step}
-use Rattle.kernel_leaps.proofs.Telling.{m, p, q}
+use Rattle.kernel_leaps.proofs.Telling.{m, p, q, to}
 use Rattle.kernel_leaps.proofs.TellingPieces.{ends_written, is_handled, is_top, lives, ticked_is}
 use Rattle.kernel_leaps.proofs.TellingRooms.{objects_here}
 use Rattle.kernel_leaps.proofs.TellingSpan.{changes_stop, dispatch_stops, handled_now, items_end, items_stop, leap_goes, leap_stops, prepared_now, prepared_quiet, prepared_stands, runs, start_now, there}
@@ -50,12 +52,21 @@ dead_alive o e f = cc
 not_so : (b : Bool) → not b ≡ true → b ≡ false
 not_so b e = grind arith
 
+both_are : (a b : Bool) → (a && b) ≡ true → (a ≡ true) × (b ≡ true)
+both_are a b e = (grind arith, grind arith)
+
+nobody : (o : Option ℕ) (t : ℕ) → None ≡ o → o ≡ Some t → ⊥
+nobody o t e f = cc
+
+same_thread : (o : Option ℕ) (t u : ℕ) → Some t ≡ o → o ≡ Some u → t ≡ u
+same_thread o t u e f = cc
+
 -- ---- the items
 
 pub write_items-requires-clause-fits : goal.write_items-requires-clause-fits
 write_items-requires-clause-fits g c =
-    let start = c.is_calm-calm.new.p in
-    let same = c.is_calm-calm.ensures.same in
+    let start = c.is_idle-idle.new.p in
+    let same = c.is_idle-idle.ensures.same in
     let in_run = same ∙ c.requires.in_run in
     let fit = subst (λ (x : Kernel). StaysFit x (objects_in x)) (sym same) c.requires.fits in
     let quiet_start = ap (λ (x : Kernel). x.direct) in_run in
@@ -66,8 +77,8 @@ write_items-requires-clause-early g c =
     let s = c.args.script.now in
     let f = c.requires.well_formed in
     let at = c.args.reached in
-    let start = c.is_calm-calm.new.p in
-    let same = c.is_calm-calm.ensures.same in
+    let start = c.is_idle-idle.new.p in
+    let same = c.is_idle-idle.ensures.same in
     let in_run = same ∙ c.requires.in_run in
     let living = ap (λ (x : Kernel). x.machine.killed) same ∙ c.requires.alive in
     let here = start_now s f at start in_run living in
@@ -79,8 +90,8 @@ returns-then-write_items-clause-stopped g c none =
     let s = c.args.script.now in
     let f = c.requires.well_formed in
     let at = c.args.reached in
-    let start = c.is_calm-calm.new.p in
-    let same = c.is_calm-calm.ensures.same in
+    let start = c.is_idle-idle.new.p in
+    let same = c.is_idle-idle.ensures.same in
     let in_run = same ∙ c.requires.in_run in
     let living = ap (λ (x : Kernel). x.machine.killed) same ∙ c.requires.alive in
     let handled = c.write_items.new.p in
@@ -94,8 +105,8 @@ returns-then-is_killed-clause-on g c =
     let s = c.args.script.now in
     let f = c.requires.well_formed in
     let at = c.args.reached in
-    let start = c.is_calm-calm.new.p in
-    let same = c.is_calm-calm.ensures.same in
+    let start = c.is_idle-idle.new.p in
+    let same = c.is_idle-idle.ensures.same in
     let in_run = same ∙ c.requires.in_run in
     let living = ap (λ (x : Kernel). x.machine.killed) same ∙ c.requires.alive in
     let handled = c.write_items.new.p in
@@ -115,8 +126,8 @@ look-requires-clause-numbered g c =
     let s = c.args.script.now in
     let f = c.requires.well_formed in
     let at = c.args.reached in
-    let start = c.is_calm-calm.new.p in
-    let same = c.is_calm-calm.ensures.same in
+    let start = c.is_idle-idle.new.p in
+    let same = c.is_idle-idle.ensures.same in
     let in_run = same ∙ c.requires.in_run in
     let handled = c.write_items.new.p in
     let state = c.write_items.ensures.state in
@@ -124,15 +135,15 @@ look-requires-clause-numbered g c =
 
 pub look-requires-clause-named : goal.look-requires-clause-named
 look-requires-clause-named g c =
-    named c.args.script.now c.args.reached.done c.is_calm-calm.new.p c.write_items.new.p (c.is_calm-calm.ensures.same ∙ c.requires.in_run) c.write_items.ensures.state
+    named c.args.script.now c.args.reached.done c.is_idle-idle.new.p c.write_items.new.p (c.is_idle-idle.ensures.same ∙ c.requires.in_run) c.write_items.ensures.state
 
 pub look-requires-clause-objects : goal.look-requires-clause-objects
 look-requires-clause-objects g c =
     let s = c.args.script.now in
     let f = c.requires.well_formed in
     let at = c.args.reached in
-    let start = c.is_calm-calm.new.p in
-    let same = c.is_calm-calm.ensures.same in
+    let start = c.is_idle-idle.new.p in
+    let same = c.is_idle-idle.ensures.same in
     let in_run = same ∙ c.requires.in_run in
     let handled = c.write_items.new.p in
     let state = c.write_items.ensures.state in
@@ -143,29 +154,28 @@ look-requires-clause-ready g c = c.requires.before.ready
 
 pub look-requires-clause-latest : goal.look-requires-clause-latest
 look-requires-clause-latest g c u run =
-    let start = c.is_calm-calm.new.p in
-    let same = c.is_calm-calm.ensures.same in
+    let start = c.is_idle-idle.new.p in
+    let same = c.is_idle-idle.ensures.same in
     let in_run = same ∙ c.requires.in_run in
     let fit = subst (λ (x : Kernel). StaysFit x (objects_in x)) (sym same) c.requires.fits in
     let quiet_start = ap (λ (x : Kernel). x.direct) in_run in
     (instant_fits start c.write_items.new.p c.write_items.ensures.state (items_fit start quiet_start fit)).latest.each u run
 
 pub look-requires-clause-same : goal.look-requires-clause-same
-look-requires-clause-same g c calm steady =
+look-requires-clause-same g c idle steady =
     let s = c.args.script.now in
     let f = c.requires.well_formed in
     let at = c.args.reached in
-    let start = c.is_calm-calm.new.p in
-    let in_run = c.is_calm-calm.ensures.same ∙ c.requires.in_run in
+    let start = c.is_idle-idle.new.p in
+    let in_run = c.is_idle-idle.ensures.same ∙ c.requires.in_run in
     let handled = c.write_items.new.p in
-    let none : next_item (m s f at.done) ≡ None = ap (λ (x : Kernel). next_item x.machine) (sym c.requires.in_run) ∙ c.is_calm-calm.ensures.idle calm in
-    told_again s f at.done handled (is_handled s f at.done start in_run handled c.write_items.ensures.state) c.args.texts.now c.requires.before steady
-    (c.requires.after_quiet (c.is_calm-calm.ensures.after calm)) none
+    let none : next_item (m s f at.done) ≡ None = ap (λ (x : Kernel). next_item x.machine) (sym c.requires.in_run) ∙ c.is_idle-idle.ensures.idle idle in
+    told_again s f at.done handled (is_handled s f at.done start in_run handled c.write_items.ensures.state) c.args.texts.now c.requires.before steady none
 
 pub write_dispatch-to-requires-clause-latest : goal.write_dispatch-to-requires-clause-latest
 write_dispatch-to-requires-clause-latest g c u run =
-    let start = c.is_calm-calm.new.p in
-    let same = c.is_calm-calm.ensures.same in
+    let start = c.is_idle-idle.new.p in
+    let same = c.is_idle-idle.ensures.same in
     let in_run = same ∙ c.requires.in_run in
     let fit = subst (λ (x : Kernel). StaysFit x (objects_in x)) (sym same) c.requires.fits in
     let quiet_start = ap (λ (x : Kernel). x.direct) in_run in
@@ -178,8 +188,8 @@ write_dispatch-to-requires-clause-early g c =
     let s = c.args.script.now in
     let f = c.requires.well_formed in
     let at = c.args.reached in
-    let start = c.is_calm-calm.new.p in
-    let same = c.is_calm-calm.ensures.same in
+    let start = c.is_idle-idle.new.p in
+    let same = c.is_idle-idle.ensures.same in
     let in_run = same ∙ c.requires.in_run in
     let living = ap (λ (x : Kernel). x.machine.killed) same ∙ c.requires.alive in
     let handled = c.write_items.new.p in
@@ -193,8 +203,8 @@ returns-then-failed-clause-stopped g c none =
     let s = c.args.script.now in
     let f = c.requires.well_formed in
     let at = c.args.reached in
-    let start = c.is_calm-calm.new.p in
-    let same = c.is_calm-calm.ensures.same in
+    let start = c.is_idle-idle.new.p in
+    let same = c.is_idle-idle.ensures.same in
     let in_run = same ∙ c.requires.in_run in
     let living = ap (λ (x : Kernel). x.machine.killed) same ∙ c.requires.alive in
     let handled = c.write_items.new.p in
@@ -213,8 +223,8 @@ returns-then-write_changed-clause-stopped g c none =
     let s = c.args.script.now in
     let f = c.requires.well_formed in
     let at = c.args.reached in
-    let start = c.is_calm-calm.new.p in
-    let same = c.is_calm-calm.ensures.same in
+    let start = c.is_idle-idle.new.p in
+    let same = c.is_idle-idle.ensures.same in
     let in_run = same ∙ c.requires.in_run in
     let living = ap (λ (x : Kernel). x.machine.killed) same ∙ c.requires.alive in
     let handled = c.write_items.new.p in
@@ -235,8 +245,8 @@ ticks_to_next-near-requires g c =
     let s = c.args.script.now in
     let f = c.requires.well_formed in
     let at = c.args.reached in
-    let start = c.is_calm-calm.new.p in
-    let same = c.is_calm-calm.ensures.same in
+    let start = c.is_idle-idle.new.p in
+    let same = c.is_idle-idle.ensures.same in
     let in_run = same ∙ c.requires.in_run in
     let living = ap (λ (x : Kernel). x.machine.killed) same ∙ c.requires.alive in
     let handled = c.write_items.new.p in
@@ -256,8 +266,8 @@ leap-requires g c =
     let s = c.args.script.now in
     let f = c.requires.well_formed in
     let at = c.args.reached in
-    let start = c.is_calm-calm.new.p in
-    let same = c.is_calm-calm.ensures.same in
+    let start = c.is_idle-idle.new.p in
+    let same = c.is_idle-idle.ensures.same in
     let in_run = same ∙ c.requires.in_run in
     let living = ap (λ (x : Kernel). x.machine.killed) same ∙ c.requires.alive in
     let handled = c.write_items.new.p in
@@ -273,7 +283,7 @@ leap-requires g c =
     let near_most = most_near (agenda prepared.machine) prepared.machine.now most in
     let within = c.most_at_once-most.ensures.within in
     let some_most = c.most_at_once-most.ensures.some in
-    let idle = c.max-idle.ensures in
+    let idle = c.max-ticks.ensures in
     let limit = c.requires.limit in
     record { early = omega (arith, now, is_near, near_most, within, some_most, idle, limit) }
 
@@ -285,7 +295,7 @@ after-requires-in_default-clause-within g c =
     let near_most = most_near (agenda prepared.machine) prepared.machine.now most in
     let within = c.most_at_once-most.ensures.within in
     let some_most = c.most_at_once-most.ensures.some in
-    let idle = c.max-idle.ensures in
+    let idle = c.max-ticks.ensures in
     omega (arith, is_near, near_most, within, some_most, idle)
 
 pub returns-in_default-clause-on : goal.returns-in_default-clause-on
@@ -293,8 +303,8 @@ returns-in_default-clause-on g c =
     let s = c.args.script.now in
     let f = c.requires.well_formed in
     let at = c.args.reached in
-    let start = c.is_calm-calm.new.p in
-    let same = c.is_calm-calm.ensures.same in
+    let start = c.is_idle-idle.new.p in
+    let same = c.is_idle-idle.ensures.same in
     let in_run = same ∙ c.requires.in_run in
     let living = ap (λ (x : Kernel). x.machine.killed) same ∙ c.requires.alive in
     let handled = c.write_items.new.p in
@@ -315,8 +325,8 @@ returns-in_default-clause-on g c =
     let some_most = c.most_at_once-most.ensures.some in
     let reach : 2 ≤ c.ticks_to_next-near.result → c.ticks_to_next-near.result ≤ ticks_to_next most (p s f at.done).machine.now (agenda (p s f at.done).machine) =
     λ long. subst (λ (x : Kernel). c.ticks_to_next-near.result ≤ ticks_to_next most x.machine.now (agenda x.machine)) at_head (omega (arith, is_near)) in
-    let idle = c.max-idle.ensures in
-    let j = c.max-idle.result in
+    let idle = c.max-ticks.ensures in
+    let j = c.max-ticks.result in
     let top = sym c.in_default.is ∙ c.write_dispatch-to.ensures.top in
     let whom = is_top s f at.done start in_run handled state prepared given None top in
     let long = long_idle s f at.done going (sym whom) c.ticks_to_next-near.result most j (omega (arith, idle)) reach in
@@ -328,9 +338,10 @@ returns-in_default-clause-on g c =
     let d = c.write_changed.new.sink in
     let fourth : Writes text faults d d false (ends s f at.done j) = put_same (printer.outlet text faults false d) (printer.outlet text faults false d) [] (ends s f at.done j) (sym nothing) (put_nothing (printer.outlet text faults false d)) in
     subst (λ (r : Reached). HasGoneOn text faults s at r c.leap.new.self c.look.new.self c.args.sink.now d) (sym c.after-in_default.ensures)
-    (leap_goes s f at start in_run living handled state alive_now stands still prepared given text faults c.requires.some c.args.sink.now c.write_items.new.sink c.write_dispatch-to.new.sink c.write_items.result c.write_dispatch-to.result.1 c.if-write_items.false c.write_items.ensures.told c.write_dispatch-to.ensures.told c.requires.runnable c.if-failed.false c.write_changed.new.sink c.write_changed.result c.args.texts.now c.look.new.self c.write_changed.ensures c.look.ensures.signals c.look.ensures.told c.look.ensures.subjects c.look.ensures.lines c.requires.before c.look.ensures.ready c.is_calm-calm.result (λ e. c.requires.after_quiet (c.is_calm-calm.ensures.after e)) (λ e. ap (λ (x : Kernel). next_item x.machine) same ∙ c.is_calm-calm.ensures.idle e) c.if-write_changed.false j (omega (arith, idle)) (omega (arith, is_near, near_most, within, some_most, idle)) long single d fourth c.leap.new.self
+    (leap_goes s f at start in_run living handled state alive_now stands still prepared given text faults c.requires.some c.args.sink.now c.write_items.new.sink c.write_dispatch-to.new.sink c.write_items.result c.write_dispatch-to.result.1 c.if-write_items.false c.write_items.ensures.told c.write_dispatch-to.ensures.told c.requires.runnable c.if-failed.false c.write_changed.new.sink c.write_changed.result c.args.texts.now c.look.new.self c.write_changed.ensures c.look.ensures.signals c.look.ensures.told c.look.ensures.subjects c.look.ensures.lines c.requires.before c.look.ensures.ready c.is_calm-calm.result (λ e. c.requires.after_quiet (c.is_calm-calm.ensures.after e)) (λ e. ap (λ (x : Kernel). next_item x.machine) same ∙ c.is_idle-idle.ensures.idle (c.is_calm-calm.ensures.idle e)) c.if-write_changed.false j (omega (arith, idle)) (omega (arith, is_near, near_most, within, some_most, idle)) long single d fourth c.leap.new.self
     (ticked_is s f at.done start in_run handled state prepared given None top j c.leap.new.self leap) (ap (λ (x : Kernel). x.direct) leap ∙ prepared_quiet s f at start in_run living handled state alive_now stands still prepared given) stood
-    (not c.is_calm-calm.result) (λ e. single (not_so c.is_calm-calm.result e)) (λ e. after_idle s f at.done going (sym whom)) c.look.ensures.once c.look.ensures.steady)
+    (not c.is_calm-calm.result) (λ e. single (not_so c.is_calm-calm.result e)) (λ e. after_idle s f at.done going (sym whom)) c.look.new.self refl refl
+    c.look.ensures.steady (λ steady t e. absurd (nobody (to s f at.done) t whom e)))
 
 -- ---- where a thread does
 
@@ -339,8 +350,8 @@ write_ticks-failed-requires-clause-quiet g c =
     let s = c.args.script.now in
     let f = c.requires.well_formed in
     let at = c.args.reached in
-    let start = c.is_calm-calm.new.p in
-    let same = c.is_calm-calm.ensures.same in
+    let start = c.is_idle-idle.new.p in
+    let same = c.is_idle-idle.ensures.same in
     let in_run = same ∙ c.requires.in_run in
     let living = ap (λ (x : Kernel). x.machine.killed) same ∙ c.requires.alive in
     let handled = c.write_items.new.p in
@@ -357,8 +368,8 @@ write_ticks-failed-requires-clause-may g c =
     let s = c.args.script.now in
     let f = c.requires.well_formed in
     let at = c.args.reached in
-    let start = c.is_calm-calm.new.p in
-    let same = c.is_calm-calm.ensures.same in
+    let start = c.is_idle-idle.new.p in
+    let same = c.is_idle-idle.ensures.same in
     let in_run = same ∙ c.requires.in_run in
     let living = ap (λ (x : Kernel). x.machine.killed) same ∙ c.requires.alive in
     let fit = subst (λ (x : Kernel). StaysFit x (objects_in x)) (sym same) c.requires.fits in
@@ -386,8 +397,8 @@ write_ticks-failed-requires-clause-alone g c =
     let s = c.args.script.now in
     let f = c.requires.well_formed in
     let at = c.args.reached in
-    let start = c.is_calm-calm.new.p in
-    let same = c.is_calm-calm.ensures.same in
+    let start = c.is_idle-idle.new.p in
+    let same = c.is_idle-idle.ensures.same in
     let in_run = same ∙ c.requires.in_run in
     let living = ap (λ (x : Kernel). x.machine.killed) same ∙ c.requires.alive in
     let handled = c.write_items.new.p in
@@ -408,8 +419,8 @@ returns-then-failed-2-clause-stopped g c none =
     let s = c.args.script.now in
     let f = c.requires.well_formed in
     let at = c.args.reached in
-    let start = c.is_calm-calm.new.p in
-    let same = c.is_calm-calm.ensures.same in
+    let start = c.is_idle-idle.new.p in
+    let same = c.is_idle-idle.ensures.same in
     let in_run = same ∙ c.requires.in_run in
     let living = ap (λ (x : Kernel). x.machine.killed) same ∙ c.requires.alive in
     let handled = c.write_items.new.p in
@@ -441,7 +452,7 @@ returns-then-failed-2-clause-stopped g c none =
     let long = long_by_thread s f at.done going t (sym whom) short most j (lasts ∙ ap (leap_of short t) at_head) reach in
     let single : c.is_calm-calm.result ≡ false → j ≡ 1 = λ e. (let one = c.most_at_once-most.ensures.one e in omega (arith, is_near, near_most, fewer, lasts, one)) in
     let fourth = ends_written s f at.done start in_run handled state prepared given (Some t) top text faults j c.write_changed.new.sink c.write_ticks-failed.new.sink c.write_ticks-failed.result.1 c.write_ticks-failed.ensures.told in
-    leap_stops s f at start in_run living handled state alive_now stands still prepared given text faults c.requires.some c.args.sink.now c.write_items.new.sink c.write_dispatch-to.new.sink c.write_items.result c.write_dispatch-to.result.1 c.if-write_items.false c.write_items.ensures.told c.write_dispatch-to.ensures.told c.requires.runnable c.if-failed.false c.write_changed.new.sink c.write_changed.result c.args.texts.now c.look.new.self c.write_changed.ensures c.look.ensures.signals c.look.ensures.told c.look.ensures.subjects c.look.ensures.lines c.requires.before c.look.ensures.ready c.is_calm-calm.result (λ e. c.requires.after_quiet (c.is_calm-calm.ensures.after e)) (λ e. ap (λ (x : Kernel). next_item x.machine) same ∙ c.is_calm-calm.ensures.idle e) c.if-write_changed.false j (omega (arith, lasts)) (omega (arith, few, fewer, is_near, near_most, within, some_most)) long single c.write_ticks-failed.new.sink c.write_ticks-failed.result.1 c.if-failed-2.true fourth
+    leap_stops s f at start in_run living handled state alive_now stands still prepared given text faults c.requires.some c.args.sink.now c.write_items.new.sink c.write_dispatch-to.new.sink c.write_items.result c.write_dispatch-to.result.1 c.if-write_items.false c.write_items.ensures.told c.write_dispatch-to.ensures.told c.requires.runnable c.if-failed.false c.write_changed.new.sink c.write_changed.result c.args.texts.now c.look.new.self c.write_changed.ensures c.look.ensures.signals c.look.ensures.told c.look.ensures.subjects c.look.ensures.lines c.requires.before c.look.ensures.ready c.is_calm-calm.result (λ e. c.requires.after_quiet (c.is_calm-calm.ensures.after e)) (λ e. ap (λ (x : Kernel). next_item x.machine) same ∙ c.is_idle-idle.ensures.idle (c.is_calm-calm.ensures.idle e)) c.if-write_changed.false j (omega (arith, lasts)) (omega (arith, few, fewer, is_near, near_most, within, some_most)) long single c.write_ticks-failed.new.sink c.write_ticks-failed.result.1 c.if-failed-2.true fourth
 
 pub after-requires-2-clause-within : goal.after-requires-2-clause-within
 after-requires-2-clause-within g c =
@@ -460,8 +471,8 @@ returns-clause-on g c =
     let s = c.args.script.now in
     let f = c.requires.well_formed in
     let at = c.args.reached in
-    let start = c.is_calm-calm.new.p in
-    let same = c.is_calm-calm.ensures.same in
+    let start = c.is_idle-idle.new.p in
+    let same = c.is_idle-idle.ensures.same in
     let in_run = same ∙ c.requires.in_run in
     let living = ap (λ (x : Kernel). x.machine.killed) same ∙ c.requires.alive in
     let handled = c.write_items.new.p in
@@ -498,11 +509,16 @@ returns-clause-on g c =
     λ e. (let so = both_so c.write_ticks-failed.result.0.is_quiet c.is_calm-calm.result (sym c.is_quiet_tick.ensures ∙ e) in
     let one = c.most_at_once-most.ensures.one so.1 in
     after_thread s f at.done going t (sym whom) (subst (λ (x : Kernel). IsQuietTick (flat_bodies x.code) x.machine.quantum (thread_at x.machine t)) at_head (c.write_ticks-failed.ensures.quiet_tick so.0 (omega (arith, is_near, near_most, fewer, one))))) in
-    subst (λ (r : Reached). HasGoneOn text faults s at r c.write_ticks-failed.new.p c.look.new.self c.args.sink.now c.write_ticks-failed.new.sink) (sym c.after-2.ensures)
-    (leap_goes s f at start in_run living handled state alive_now stands still prepared given text faults c.requires.some c.args.sink.now c.write_items.new.sink c.write_dispatch-to.new.sink c.write_items.result c.write_dispatch-to.result.1 c.if-write_items.false c.write_items.ensures.told c.write_dispatch-to.ensures.told c.requires.runnable c.if-failed.false c.write_changed.new.sink c.write_changed.result c.args.texts.now c.look.new.self c.write_changed.ensures c.look.ensures.signals c.look.ensures.told c.look.ensures.subjects c.look.ensures.lines c.requires.before c.look.ensures.ready c.is_calm-calm.result (λ e. c.requires.after_quiet (c.is_calm-calm.ensures.after e)) (λ e. ap (λ (x : Kernel). next_item x.machine) same ∙ c.is_calm-calm.ensures.idle e) c.if-write_changed.false j (omega (arith, lasts)) (omega (arith, few, fewer, is_near, near_most, within, some_most)) long single c.write_ticks-failed.new.sink
+    subst (λ (r : Reached). HasGoneOn text faults s at r c.write_ticks-failed.new.p c.follow.new.self c.args.sink.now c.write_ticks-failed.new.sink) (sym c.after-2.ensures)
+    (leap_goes s f at start in_run living handled state alive_now stands still prepared given text faults c.requires.some c.args.sink.now c.write_items.new.sink c.write_dispatch-to.new.sink c.write_items.result c.write_dispatch-to.result.1 c.if-write_items.false c.write_items.ensures.told c.write_dispatch-to.ensures.told c.requires.runnable c.if-failed.false c.write_changed.new.sink c.write_changed.result c.args.texts.now c.look.new.self c.write_changed.ensures c.look.ensures.signals c.look.ensures.told c.look.ensures.subjects c.look.ensures.lines c.requires.before c.look.ensures.ready c.is_calm-calm.result (λ e. c.requires.after_quiet (c.is_calm-calm.ensures.after e)) (λ e. ap (λ (x : Kernel). next_item x.machine) same ∙ c.is_idle-idle.ensures.idle (c.is_calm-calm.ensures.idle e)) c.if-write_changed.false j (omega (arith, lasts)) (omega (arith, few, fewer, is_near, near_most, within, some_most)) long single c.write_ticks-failed.new.sink
     (subst (λ (b : Bool). Writes text faults c.write_changed.new.sink c.write_ticks-failed.new.sink b (ends s f at.done j)) c.if-failed-2.false fourth) c.write_ticks-failed.new.p
     (ticked_is s f at.done start in_run handled state prepared given (Some t) top j c.write_ticks-failed.new.p c.write_ticks-failed.ensures.state) c.write_ticks-failed.ensures.quiet c.write_ticks-failed.ensures.stood
-    is_quiet (λ e. single (both_so c.write_ticks-failed.result.0.is_quiet c.is_calm-calm.result (sym c.is_quiet_tick.ensures ∙ e)).1) tick c.look.ensures.once c.look.ensures.steady)
+    is_quiet (λ e. single (both_so c.write_ticks-failed.result.0.is_quiet c.is_calm-calm.result (sym c.is_quiet_tick.ensures ∙ e)).1) tick c.follow.new.self
+    (ap (λ (x : FactTexts). x.desk) c.follow.ensures) (ap (λ (x : FactTexts). x.next) c.follow.ensures)
+    (λ e. c.look.ensures.steady (both_are c.look.new.self.are_steady c.write_ticks-failed.result.0.is_still (sym (ap (λ (x : FactTexts). x.are_steady) c.follow.ensures) ∙ e)).0)
+    (λ e u first. subst (λ (v : ℕ). OnlyTakeTime (q s f at.done) j v (p s f at.done).machine) (same_thread (to s f at.done) t u whom first)
+    (subst (λ (x : Kernel). OnlyTakeTime (flat_bodies x.code) j t x.machine) at_head
+    (c.write_ticks-failed.ensures.still (both_are c.look.new.self.are_steady c.write_ticks-failed.result.0.is_still (sym (ap (λ (x : FactTexts). x.are_steady) c.follow.ensures) ∙ e)).1))))
 
 -- ---- the steps
 
@@ -515,8 +531,8 @@ returns-in_default-clause-steps g c alive =
     let s = c.args.script.now in
     let f = c.requires.well_formed in
     let at = c.args.reached in
-    let start = c.is_calm-calm.new.p in
-    let same = c.is_calm-calm.ensures.same in
+    let start = c.is_idle-idle.new.p in
+    let same = c.is_idle-idle.ensures.same in
     let in_run = same ∙ c.requires.in_run in
     let living = ap (λ (x : Kernel). x.machine.killed) same ∙ c.requires.alive in
     let handled = c.write_items.new.p in
@@ -533,9 +549,9 @@ returns-in_default-clause-steps g c alive =
     let near_most = most_near (agenda prepared.machine) prepared.machine.now most in
     let within = c.most_at_once-most.ensures.within in
     let some_most = c.most_at_once-most.ensures.some in
-    let is_rest_is : c.is_calm-calm.result ≡ is_rest s at = c.is_calm-calm.ensures.whenever ∙ ap (λ (x : Kernel). at.is_quiet && not (has_item x.machine)) c.requires.in_run in
-    let idle = c.max-idle.ensures in
-    let j = c.max-idle.result in
+    let is_rest_is : c.is_calm-calm.result ≡ is_rest s at = c.is_calm-calm.ensures.whenever ∙ ap (λ (b : Bool). at.is_quiet && b) c.is_idle-idle.ensures.whenever ∙ ap (λ (x : Kernel). at.is_quiet && not (has_item x.machine)) c.requires.in_run in
+    let idle = c.max-ticks.ensures in
+    let j = c.max-ticks.result in
     let calm = c.is_calm-calm.result in
     let top = sym c.in_default.is ∙ c.write_dispatch-to.ensures.top in
     let whom = is_top s f at.done start in_run handled state prepared given None top in
@@ -558,8 +574,8 @@ returns-clause-steps g c alive =
     let s = c.args.script.now in
     let f = c.requires.well_formed in
     let at = c.args.reached in
-    let start = c.is_calm-calm.new.p in
-    let same = c.is_calm-calm.ensures.same in
+    let start = c.is_idle-idle.new.p in
+    let same = c.is_idle-idle.ensures.same in
     let in_run = same ∙ c.requires.in_run in
     let living = ap (λ (x : Kernel). x.machine.killed) same ∙ c.requires.alive in
     let handled = c.write_items.new.p in
@@ -591,7 +607,7 @@ returns-clause-steps g c alive =
     let long = long_by_thread s f at.done going t (sym whom) short most j (lasts ∙ ap (leap_of short t) at_head) reach in
     let single : c.is_calm-calm.result ≡ false → j ≡ 1 = λ e. (let one = c.most_at_once-most.ensures.one e in omega (arith, is_near, near_most, fewer, lasts, one)) in
     let fourth = ends_written s f at.done start in_run handled state prepared given (Some t) top text faults j c.write_changed.new.sink c.write_ticks-failed.new.sink c.write_ticks-failed.result.1 c.write_ticks-failed.ensures.told in
-    let is_rest_is : c.is_calm-calm.result ≡ is_rest s at = c.is_calm-calm.ensures.whenever ∙ ap (λ (x : Kernel). at.is_quiet && not (has_item x.machine)) c.requires.in_run in
+    let is_rest_is : c.is_calm-calm.result ≡ is_rest s at = c.is_calm-calm.ensures.whenever ∙ ap (λ (b : Bool). at.is_quiet && b) c.is_idle-idle.ensures.whenever ∙ ap (λ (x : Kernel). at.is_quiet && not (has_item x.machine)) c.requires.in_run in
     let calm = c.is_calm-calm.result in
     let step = c.write_ticks-failed.ensures.step in
     let quiet = c.is_quiet_tick.result in
@@ -599,7 +615,7 @@ returns-clause-steps g c alive =
     let by_calm : (b : Bool) → calm ≡ b → 1 + steps_left s (record { done = at.done + j; left = at.left - j; is_quiet = quiet }) ≤ steps_left s at =
     λ b. elim b as (λ k. calm ≡ k → 1 + steps_left s (record { done = at.done + j; left = at.left - j; is_quiet = quiet }) ≤ steps_left s at) [
       | true ↦ λ e. (let all = c.most_at_once-most.ensures.all e in
-          let none : next_item (m s f at.done) ≡ None = ap (λ (x : Kernel). next_item x.machine) (sym in_run ∙ same) ∙ c.is_calm-calm.ensures.idle e in
+          let none : next_item (m s f at.done) ≡ None = ap (λ (x : Kernel). next_item x.machine) (sym in_run ∙ same) ∙ c.is_idle-idle.ensures.idle (c.is_calm-calm.ensures.idle e) in
           let in_unit = midst s f at.done living' (c.requires.after_quiet (c.is_calm-calm.ensures.after e)) none t (sym whom) in
           let over : quiet ≡ false = c.is_quiet_tick.ensures ∙ no_more c.write_ticks-failed.result.0.is_quiet calm e in
           subst (λ (b : Bool). 1 + steps_left s (record { done = at.done + j; left = at.left - j; is_quiet = b }) ≤ steps_left s at) (sym over)

@@ -29,7 +29,7 @@ leaps-init g c = record {
     state = c.requires.opened;
     alive = ap (λ (x : Kernel). x.machine.killed) c.requires.opened;
     stood = c.requires.stood;
-    before = are_first c.args.script.now c.args.p.now c.requires.opened c.begin.new.self c.begin.ensures.subjects c.begin.ensures.told c.begin.ensures.signals c.begin.ensures.ready;
+    before = are_first c.args.script.now c.args.p.now c.requires.opened c.begin.new.self c.begin.ensures.subjects c.begin.ensures.told c.begin.ensures.signals c.begin.ensures.ready c.begin.ensures.unsteady;
     writes = none_told g.K.Sink.text g.K.Sink.faults c.args.script.now c.args.sink.now;
     quiet = λ e. absurd (cc);
   };

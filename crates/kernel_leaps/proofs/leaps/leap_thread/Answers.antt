@@ -1,10 +1,17 @@
-use Rattle.std.proofs.Common.{List, ap, arith, length, subst, sym, ℕ, ◌-◌, ◌<◌, ◌^◌, ◌≤◌}
+use Rattle.std.proofs.Common.{Bool, List, ap, arith, length, subst, sym, true, ℕ, ◌-◌, ◌<◌, ◌^◌, ◌≡◌, ◌≤◌, ◌∙◌}
+use Rattle.std.specs.Prelude.{◌&&◌}
 use Rattle.kernel_threads.specs.Running.{all_of}
-use Rattle.kernel_leaps.proofs.InUnit.{matters_of, not_blocked, quiet_of}
+use Rattle.script_code.specs.Fetched.{unit_of}
+use Rattle.kernel_threads.specs.Running.{only_takes_time}
+use Rattle.kernel_leaps.proofs.InUnit.{matters_of, not_blocked, not_quiet, quiet_of, so_quiet, takes_time}
 use Rattle.kernel_leaps.proofs.Passing.{begun_at, may_here}
 use Rattle.kernel_leaps.proofs.ThreadLeap.{acts, can_complete, has_leapt, in_time, leapt_state, leapt_told, may_be_swept, settled_stood}
+use Rattle.rules_machine.specs.Threads.{thread_at}
 use Rattle.kernel_state.specs.Kernel.{Kernel}
 use Rattle.kernel_leaps.proofs.leaps.leap_thread.Goals as goal
+
+both_so : (a b : Bool) → (a && b) ≡ true → (a ≡ true) × (b ≡ true)
+both_so a b e = (grind arith, grind arith)
 
 -- ---- the running
 
@@ -81,10 +88,22 @@ returns-clause-leapt g c =
 
 pub returns-clause-quiet_tick : goal.returns-clause-quiet_tick
 returns-clause-quiet_tick g c quiet one =
-    quiet_of _ _ _ _ _ _ _ _ _ c.run_thread-ran.ensures.ran one (ap (λ (k : Kernel). k.machine.quantum) c.run_thread-ran.ensures.state) (c.ends_quietly-is_quiet.ensures.sure quiet)
+    let ran = c.run_thread-ran.ensures.ran in
+    quiet_of _ _ _ _ _ _ _ _ _ ran one (ap (λ (k : Kernel). k.machine.quantum) c.run_thread-ran.ensures.state)
+    (not_quiet c.uses_up_nothing-saves.result c.run_thread-ran.result.is_complete c.run_thread-ran.result.was_high c.run_thread-ran.new.p.machine.quantum (thread_at c.run_thread-ran.new.p.machine c.args.t) (sym c.ended_quietly-is_quiet.ensures ∙ quiet) ran.complete c.uses_up_nothing-saves.ensures.sure)
 
 pub returns-clause-each_quiet_tick : goal.returns-clause-each_quiet_tick
 returns-clause-each_quiet_tick g c one runs quiet =
     let ran = c.run_thread-ran.ensures.ran in
-    c.ends_quietly-is_quiet.ensures.whenever (not_blocked _ _ _ _ _ _ _ _ ran one runs)
-    (matters_of _ _ _ _ _ _ _ _ _ ran one (ap (λ (k : Kernel). k.machine.quantum) c.run_thread-ran.ensures.state) quiet)
+    c.ended_quietly-is_quiet.ensures
+    ∙ so_quiet c.uses_up_nothing-saves.result c.run_thread-ran.result.is_complete c.run_thread-ran.result.was_high c.run_thread-ran.new.p.machine.quantum (thread_at c.run_thread-ran.new.p.machine c.args.t) (matters_of _ _ _ _ _ _ _ _ _ ran one (ap (λ (k : Kernel). k.machine.quantum) c.run_thread-ran.ensures.state) quiet)
+    ran.complete (c.uses_up_nothing-saves.ensures.whenever (not_blocked _ _ _ _ _ _ _ _ ran one runs))
+
+-- ---- ticks that only take time
+
+pub returns-clause-still : goal.returns-clause-still
+returns-clause-still g c still alone =
+    let ran = c.run_thread-ran.ensures.ran in
+    let so = both_so c.uses_up_nothing-saves.result _ (sym c.only_took_time-is_still.ensures ∙ still) in
+    takes_time c.args.p.now c.args.t c.args.near c.run_thread-ran.result _ _ _ ran alone _ (ap (λ (k : Kernel). k.machine.quantum) c.run_thread-ran.ensures.state)
+    (subst (λ (k : Kernel). only_takes_time (unit_of k.code c.run_thread-ran.result.unit) ≡ true) c.run_thread-ran.ensures.state so.1) (c.uses_up_nothing-saves.ensures.sure so.0)
