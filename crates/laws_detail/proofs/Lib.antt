@@ -11,3 +11,4 @@ pub mod Subjects
 pub mod Flat
 pub mod Depths
 pub mod TimeTaken
+pub mod BehindLeaps

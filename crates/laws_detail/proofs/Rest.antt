@@ -107,17 +107,17 @@ module _ (script : Script) (fits : IsWellFormed script) (most n : ℕ) (some : 1
   abbrev bodies' : Bodies Place
   bodies' = bodies_of script
 
-  start_ready : IsReady bodies' (machine script n)
+  pub start_ready : IsReady bodies' (machine script n)
   start_ready = stays_ready bodies' (bodies_fit script fits.priorities) script fits n
 
-  leap : IsLeap bodies' most (leap_at script most n) (machine script n)
+  pub leap : IsLeap bodies' most (leap_at script most n) (machine script n)
   leap = is_leap bodies' (machine script n) most some start_ready
 
   -- what is shown so many ticks behind the instant
-  later_shown : (i : ℕ) → facts script (shown_machine script (n + i)) ≡ facts script (shown_of bodies' (ticks bodies' i (machine script n)).machine)
+  pub later_shown : (i : ℕ) → facts script (shown_machine script (n + i)) ≡ facts script (shown_of bodies' (ticks bodies' i (machine script n)).machine)
   later_shown i = ap (λ (r : Ran Place). facts script (shown_of bodies' r.machine)) (ticks_add bodies' n i (opening script))
 
-  same_facts : (i : ℕ) → 1 ≤ i → i < leap_at script most n → facts script (shown_machine script (n + i)) ≡ facts script (shown_machine script (n + 1))
+  pub same_facts : (i : ℕ) → 1 ≤ i → i < leap_at script most n → facts script (shown_machine script (n + i)) ≡ facts script (shown_machine script (n + 1))
   same_facts i low high =
       later_shown i
       ∙ rests bodies' (machine script n) start_ready.still start_ready.handled script i (λ j some' le. leap.inside j some' (omega arith)) i low (omega arith)

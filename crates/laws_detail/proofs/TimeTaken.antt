@@ -31,9 +31,10 @@ use Rattle.rules_moves.proofs.Runs.Preparing.{alike_runs}
 use Rattle.rules_moves.proofs.Waiters.OfThreads.{changed_is}
 use Rattle.laws_machine.proofs.Lists.Kept.{Plans, in_unit_plans}
 use Rattle.laws_machine.proofs.Lists.Places.{Stand}
-use Rattle.rules_leaps.specs.Leap.{leap, leap_head, leap_runs}
-use Rattle.rules_leaps.specs.Quiet.{IsHandled, frames_after, server_after}
+use Rattle.rules_leaps.specs.Leap.{leap_goes_on, leap_head, leap_runs}
+use Rattle.rules_leaps.specs.Quiet.{IsHandled, at_head, frames_after, server_after}
 use Rattle.laws_leaps.proofs.Quiet.AnyMachine.{handled_of}
+use Rattle.laws_leaps.proofs.Quiet.Charges.{prepared_machine}
 use Rattle.laws_leaps.proofs.Quiet.Events.{nothing_more}
 use Rattle.laws_leaps.proofs.Quiet.Once.{less_high}
 use Rattle.laws_leaps.proofs.Quiet.Ticks.{idle_items}
@@ -163,46 +164,64 @@ module _ {P : Type 0} (bodies : Bodies P) (script : Script) (m : Machine P) (h :
         facts = ap (λ (s : Turn P). facts script s.machine) it ∙ spent_tells_nothing bodies k t r so.stand takes (unit_seen bodies (thread_at r t) going) script ∙ (told (Some t) e).facts;
       }
 
+-- what is left of a leap from an instant whose items are handled is what its head's ticks leave
+module _ {P : Type 0} (bodies : Bodies P) (k : ℕ) (s : Turn P) (still : s.direct ≡ []) (alive : s.machine.killed ≡ None) where
+  abbrev to : Option ℕ
+  to = head s.machine
+
+  abbrev begun : Turn P
+  begun = prepares to s
+
+  begun_is : begun ≡ behind begun.events (turn_of (at_head s.machine))
+  begun_is =
+      ap (λ (m : Machine P). record { machine = m; direct = begun.direct; events = begun.events }) (prepared_machine bodies to s still)
+      ∙ ap (λ (ns : List ℕ). record { machine = at_head s.machine; direct = ns; events = begun.events }) ((prepares_unended to s).direct ∙ still)
+      ∙ ap (λ (es : List Entry). record { machine = at_head s.machine; direct = []; events = es }) (sym (nothing_more begun.events))
+
+  left_is : (leap_goes_on bodies k s).machine ≡ (leap_runs bodies k to (turn_of (at_head s.machine))).machine
+  left_is =
+      ap (λ (o : Option ℕ). (unless_killed o (leap_head bodies k) s).machine) alive
+      ∙ ap (λ (x : Turn P). (leap_runs bodies k to x).machine) begun_is
+      ∙ ap (λ (x : Turn P). x.machine) (leap_runs_behind bodies k to begun.events (turn_of (at_head s.machine)))
+
 -- ---- the law
 
-module _ (bodies : Bodies Place) (script : Script) (m : Machine Place) (handled : IsHandled m) (plain : BeginsPlainly m) (k : ℕ) (only : HeadOnlyTakesTime bodies k m) where
-  h : Handled bodies m
-  h = handled_of bodies m handled
+module _ {P : Type 0} (bodies : Bodies P) (script : Script) where
+  abbrev shown_state : Machine P → Machine P
+  shown_state m = once_ended m.killed m
 
-  nothing_due : (x : Machine Place) → next_item x ≡ None → instant bodies (turn_of x) ≡ turn_of x
-  nothing_due x none = idle_items bodies (item_bound x) (turn_of x) none
+  shown : (x : Machine P) → next_item x ≡ None → shown_of bodies x ≡ shown_state x
+  shown x none = ap (λ (s : Turn P). shown_state s.machine) (idle_items bodies (item_bound x) (turn_of x) none)
 
-  shown : (x : Machine Place) → next_item x ≡ None → shown_of bodies x ≡ once_ended x.killed x
-  shown x none = ap (λ (s : Turn Place). once_ended s.machine.killed s.machine) (nothing_due x none)
+  module _ (k : ℕ) (s : Turn P) (still : s.direct ≡ []) (h : Handled bodies s.machine) (plain : BeginsPlainly s.machine) (only : HeadOnlyTakesTime bodies k s.machine)
+      (none : next_item (leap_goes_on bodies k s).machine ≡ None) where
+    abbrev gone_on : Machine P
+    gone_on = (leap_goes_on bodies k s).machine
 
-  abbrev begun : Turn Place
-  begun = prepares (head m) (turn_of m)
+    alive_stays : s.machine.killed ≡ None → facts script (shown_of bodies gone_on) ≡ facts script (shown_state s.machine)
+    alive_stays alive =
+        let there = left_is bodies k s still alive in
+        let law = leap_tells_nothing bodies script s.machine h plain alive k (head s.machine) refl only in
+        let living : gone_on.killed ≡ None = ap (λ (x : Machine P). x.killed) there ∙ law.alive in
+        ap (facts script) (shown gone_on none ∙ ap (λ (o : Option ℕ). once_ended o gone_on) living ∙ there)
+        ∙ law.facts
+        ∙ sym (ap (λ (o : Option ℕ). facts script (once_ended o s.machine)) alive)
 
-  begun_is : begun ≡ behind begun.events (turn_of begun.machine)
-  begun_is =
-      ap (λ (ns : List ℕ). record { machine = begun.machine; direct = ns; events = begun.events }) (prepares_unended (head m) (turn_of m)).direct
-      ∙ ap (λ (es : List Entry). record { machine = begun.machine; direct = []; events = es }) (sym (nothing_more begun.events))
+    -- behind a leap from there
+    pub goes_on_telling_nothing : facts script (shown_of bodies gone_on) ≡ facts script (shown_state s.machine)
+    goes_on_telling_nothing = by_killed s.machine.killed refl
+      where
+        by_killed : (o : Option ℕ) → s.machine.killed ≡ o → facts script (shown_of bodies gone_on) ≡ facts script (shown_state s.machine)
+        by_killed None alive = alive_stays alive
+        by_killed (Some signal) dead =
+            ap (facts script) (shown gone_on none)
+            ∙ ap (λ (o : Option ℕ). facts script (shown_state (unless_killed o (leap_head bodies k) s).machine)) dead
 
-  alive_stays : m.killed ≡ None → StaysBehind bodies script k m
-  alive_stays alive none =
-      let left = (leap bodies k (turn_of m)).machine in
-      let there : left ≡ (leap_runs bodies k (head m) (turn_of begun.machine)).machine =
-      ap (λ (s : Turn Place). (unless_killed s.machine.killed (leap_head bodies k) s).machine) (nothing_due m h.nothing)
-      ∙ ap (λ (o : Option ℕ). (unless_killed o (leap_head bodies k) (turn_of m)).machine) alive
-      ∙ ap (λ (s : Turn Place). (leap_runs bodies k (head m) s).machine) begun_is
-      ∙ ap (λ (s : Turn Place). s.machine) (leap_runs_behind bodies k (head m) begun.events (turn_of begun.machine)) in
-      let behind' = leap_tells_nothing bodies script m h plain alive k (head m) refl only in
-      let living : left.killed ≡ None = ap (λ (x : Machine Place). x.killed) there ∙ behind'.alive in
-      ap (facts script) (shown left none ∙ ap (λ (o : Option ℕ). once_ended o left) living ∙ there)
-      ∙ behind'.facts
-      ∙ sym (ap (facts script) (shown m h.nothing ∙ ap (λ (o : Option ℕ). once_ended o m) alive))
-
-  pub stays_behind : StaysBehind bodies script k m
-  stays_behind = by_killed m.killed refl
-    where
-      by_killed : (o : Option ℕ) → m.killed ≡ o → StaysBehind bodies script k m
-      by_killed None alive none = alive_stays alive none
-      by_killed (Some signal) dead none =
-          ap (λ (x : Machine Place). facts script (shown_of bodies x))
-          (ap (λ (s : Turn Place). (unless_killed s.machine.killed (leap_head bodies k) s).machine) (nothing_due m h.nothing)
-          ∙ ap (λ (o : Option ℕ). (unless_killed o (leap_head bodies k) (turn_of m)).machine) dead)
+pub stays_behind : (bodies : Bodies Place) (script : Script) (m : Machine Place) → IsHandled m → BeginsPlainly m → (k : ℕ) → HeadOnlyTakesTime bodies k m → StaysBehind bodies script k m
+stays_behind bodies script m handled plain k only none =
+    let h = handled_of bodies m handled in
+    let same : instant bodies (turn_of m) ≡ turn_of m = idle_items bodies (item_bound m) (turn_of m) h.nothing in
+    let left_same = ap (λ (s : Turn Place). (leap_goes_on bodies k s).machine) same in
+    ap (λ (x : Machine Place). facts script (shown_of bodies x)) left_same
+    ∙ goes_on_telling_nothing bodies script k (turn_of m) refl h plain only (sym (ap next_item left_same) ∙ none)
+    ∙ sym (ap (facts script) (shown bodies script m h.nothing))

@@ -78,3 +78,9 @@ HeadOnlyTakesTime bodies k m = (t : ℕ) → head m ≡ Some t → OnlyTakeTime 
 abbrev pub StaysBehind : {P : Type 0} → Bodies P → Script → ℕ → Machine P → Type 0
 StaysBehind bodies script k m = let left = (leap bodies k (turn_of m)).machine in
     next_item left ≡ None → facts script (shown_of bodies left) ≡ facts script (shown_of bodies m)
+
+-- Of a run: where the tick from an instant begins plainly, the ticks of the leap from there only take time, and nothing is due behind
+-- them, no fact changes there.
+abbrev pub NoneChangesBehind : Script → ℕ → ℕ → Type 0
+NoneChangesBehind script most n = let ready = (handled_at script n).machine in let behind = n + leap_at script most n in
+    BeginsPlainly ready → HeadOnlyTakesTime (bodies_of script) (leap_at script most n) ready → next_item (machine script behind) ≡ None → changed_at script behind ≡ []

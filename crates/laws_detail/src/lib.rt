@@ -2,11 +2,13 @@
 //!
 //! Proved: `facts_rest_in_quiet_ticks`, `facts_rest_within_a_leap`: within a leap facts change at the instant behind its start alone, so
 //! that two looks tell all of them. `facts_stay_in_a_plain_tick`, `none_changes_after_a_plain_tick`: nor do they there, where no server
-//! plans as the leap begins and its thread is not ending, so that one look is enough. `detail_goes_on`: what is told of a run goes on with
-//! what happens, and with the facts of the instants that are passed. `ticks_happen_in_time`: what begins a tick happens at its instant, and
-//! what ends it one tick later. `leaps_are_told`: what is told of a leap is what begins it, two looks, and what ends it.
-//! `facts_keep_their_subjects`: facts of machines with as many threads and objects have the same subjects. `flat_code_tells_the_same`: the
-//! facts of each instant over flat code are the script's. `queues_stay_as_deep`: each message queue of a run is as deep as it is declared.
+//! plans as the leap begins and its thread is not ending, so that one look is enough. `facts_stay_where_ticks_only_take_time`,
+//! `none_changes_behind_leaps_that_take_time`: nor behind a leap that begins so, where its ticks only take time, so that none is needed
+//! though a unit is complete. `detail_goes_on`: what is told of a run goes on with what happens, and with the facts of the instants that
+//! are passed. `ticks_happen_in_time`: what begins a tick happens at its instant, and what ends it one tick later. `leaps_are_told`: what
+//! is told of a leap is what begins it, two looks, and what ends it. `facts_keep_their_subjects`: facts of machines with as many threads
+//! and objects have the same subjects. `flat_code_tells_the_same`: the facts of each instant over flat code are the script's.
+//! `queues_stay_as_deep`: each message queue of a run is as deep as it is declared.
 //!
 //! Each function stands for a law, which its clause states. None of them does anything when it is called.
 #![tactic(auto)]
@@ -27,7 +29,7 @@ ghost use Rattle.laws_detail.specs.Depths.{HasDepthsOf};
 ghost use Rattle.laws_detail.specs.Flat.{FlatTellsTheSame};
 ghost use Rattle.laws_detail.specs.Leaps.{LeapsAreTold};
 ghost use Rattle.laws_detail.specs.Looks.{IsTold, TickInTime};
-ghost use Rattle.laws_detail.specs.Rests.{BeginsPlainly, FactsRest, HeadOnlyTakesTime, NoneChangesAfter, RestsAt, StaysAt, StaysBehind};
+ghost use Rattle.laws_detail.specs.Rests.{BeginsPlainly, FactsRest, HeadOnlyTakesTime, NoneChangesAfter, NoneChangesBehind, RestsAt, StaysAt, StaysBehind};
 ghost use Rattle.laws_detail.specs.Subjects.{HaveSameSizes, HaveSameSubjects};
 
 /// Of any machine whose items are handled: where none of the next instants is eventful, the facts of each of them are those of the first
@@ -50,16 +52,22 @@ pub fn facts_stay_in_a_plain_tick()
 {}
 
 /// So of a run: where no server plans as the tick from an instant begins, and its thread is not ending, and the next instant is not
-/// eventful, no fact changes there. So `detail` looks there only where one of the two is so.
+/// eventful, no fact changes there.
 pub fn none_changes_after_a_plain_tick()
     ensures { (script : Script) → IsWellFormed script → (n : ℕ) → NoneChangesAfter script n }
 {}
 
 /// Of any machine whose items are handled: where its tick begins plainly, and so many ticks of the head only take time, since the unit
 /// that they are of does nothing at its end, and they use up neither an interval nor a capacity, the facts behind them are those of now,
-/// unless something is due there. So `detail` need not look there, though a unit is complete.
+/// unless something is due there.
 pub fn facts_stay_where_ticks_only_take_time()
     ensures { (bodies : Bodies Place) → (script : Script) → (m : Machine Place) → IsHandled m → BeginsPlainly m → (k : ℕ) → HeadOnlyTakesTime bodies k m → StaysBehind bodies script k m }
+{}
+
+/// So of a run: behind a leap that begins plainly and only takes time no fact changes, unless something is due there, though a unit is
+/// complete. So `detail` does not look there.
+pub fn none_changes_behind_leaps_that_take_time()
+    ensures { (script : Script) → IsWellFormed script → (most : ℕ) → (n : ℕ) → 1 ≤ most → NoneChangesBehind script most n }
 {}
 
 /// What `detail` tells of a run goes on line by line: with what happens at the instant that is reached, and with the facts of each
