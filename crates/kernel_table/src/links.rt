@@ -2,7 +2,6 @@
 ghost use Rattle.std.specs.Prelude.{◌≡◌, ◌<◌, IfSome, IsSome, None, Some, false, length, slice_set};
 ghost use Rattle.rules_machine.specs.Priorities.{assigned_of, mutex_waited};
 ghost use Rattle.rules_machine.specs.Threads.{thread_in};
-ghost use Rattle.parts_waiters.specs.declared.WaitObj.TheVariants.{Cond};
 ghost use Rattle.parts_waiters.specs.Places.{place_in};
 ghost use Rattle.kernel_threads.specs.Plain.{wait_of, waiting_of};
 ghost use Rattle.parts_owners.specs.Chains.{assigned_at, assigned_to, awaited_in, exec_of, waiting_for, with_claim};
@@ -11,7 +10,7 @@ ghost use Rattle.kernel_table.specs.Moves.{ArePriced, CanRelink, MayAwait, Relin
 
 use kernel_threads::{Threads, Wait, Waiting};
 use parts_owners::{Chain, Moved};
-use parts_waiters::{WaitObj, Waits};
+use parts_waiters::{Place, WaitObj, Waits};
 use words_numbers::{ObjId, Tid};
 
 /// The chain takes the assigned priority of the thread, where it is another.
@@ -127,14 +126,15 @@ pub(crate) fn begin_waiting(
     ensures waits { ArePriced chain.new (begun chain.old t (waiting_of w.now) waits.old) waits.new }
     ensures moved { TellsMoved (length chain.old.claims) (exec_of chain.old) (exec_of chain.new) waits.new result }
 {
+    let none = ObjId::default();
     match w.wait {
         Wait::Mutex(k) => await_mutex(chain, waits, t, k, w.serial),
         Wait::MutexAgain(k, _) => await_mutex(chain, waits, t, k, w.serial),
-        Wait::Condition(c, k) => stand_with(chain, waits, t, c, k, w.serial),
-        Wait::Semaphore(k) => stand_at(chain, waits, t, WaitObj::Sem(k), w.serial),
-        Wait::Room(q, _) => stand_at(chain, waits, t, WaitObj::Sender(q), w.serial),
-        Wait::Message(q) => stand_at(chain, waits, t, WaitObj::Receiver(q), w.serial),
-        Wait::Signal(_) => stand_at(chain, waits, t, WaitObj::SigWait, w.serial),
+        Wait::Condition(c, k) => stand_at(chain, waits, t, WaitObj::Cond(c), k, w.serial),
+        Wait::Semaphore(k) => stand_at(chain, waits, t, WaitObj::Sem(k), none, w.serial),
+        Wait::Room(q, _) => stand_at(chain, waits, t, WaitObj::Sender(q), none, w.serial),
+        Wait::Message(q) => stand_at(chain, waits, t, WaitObj::Receiver(q), none, w.serial),
+        Wait::Signal(_) => stand_at(chain, waits, t, WaitObj::SigWait, none, w.serial),
         Wait::End(_) => None,
         Wait::Time => None,
     }
@@ -155,34 +155,28 @@ fn await_mutex(chain: &mut Chain, waits: &mut Waits, t: Tid, k: ObjId, serial: u
     }
 }
 
-// It stands among the waiters of an object that is no mutex, and no priority changes.
-fn stand_at(chain: &Chain, waits: &mut Waits, t: Tid, object: WaitObj, serial: u64) -> Option<Moved>
-    requires can { CanRelink chain.now waits.old t }
-    requires nowhere { place_in waits.old t ≡ None }
-    requires other { mutex_named object ≡ None }
-    ensures chain { chain.now ≡ with_claim t (waiting_for None) chain.now }
-    ensures waits { ArePriced chain.now (slice_set waits.old t (Some (record { object = object; priority = exec_of chain.now t; serial = serial; released = None }))) waits.new }
-    ensures nobody { result ≡ None }
-{
-    waits.enter(object, t, chain.exec(t), serial);
-    None
-}
-
-// It stands among the waiters of a condition, with that mutex, and no priority changes.
-fn stand_with(
+// It stands among the waiters of an object that is no mutex, with the mutex that a condition's wait released, and no priority changes.
+fn stand_at(
     chain: &Chain,
     waits: &mut Waits,
     t: Tid,
-    c: ObjId,
-    k: ObjId,
+    object: WaitObj,
+    released: ObjId,
     serial: u64,
 ) -> Option<Moved>
     requires can { CanRelink chain.now waits.old t }
     requires nowhere { place_in waits.old t ≡ None }
+    requires other { mutex_named object ≡ None }
     ensures chain { chain.now ≡ with_claim t (waiting_for None) chain.now }
-    ensures waits { ArePriced chain.now (slice_set waits.old t (Some (record { object = Cond c; priority = exec_of chain.now t; serial = serial; released = Some k }))) waits.new }
+    ensures waits { ArePriced chain.now (slice_set waits.old t (Some (record { object = object; priority = exec_of chain.now t; serial = serial; released = released }))) waits.new }
     ensures nobody { result ≡ None }
 {
-    waits.enter_condition(c, k, t, chain.exec(t), serial);
+    let place = Place {
+        object,
+        priority: chain.exec(t),
+        released,
+        serial,
+    };
+    waits.enter(t, place);
     None
 }

@@ -208,17 +208,18 @@ module _ (s : Links) (exec : List ℕ) (t : ℕ) where
       (entered_stand s exec t (Some m) (prio_in exec) x places placed.lengths known is (stands_cached s exec places settled placed))
 
   -- the place that the code makes is the one with the execution priority
-  pub entered_is : (m serial p : ℕ) (places new : List (Option Place)) → Settled s exec → t < length s.claims → p ≡ prio_in exec t →
-      new ≡ set places t (Some (record { object = wait_obj.Mutex m; priority = p; serial = serial; released = None })) → new ≡ entered t m serial s places
-  entered_is m serial p places new settled known read put =
+  pub entered_is : (m serial p r : ℕ) (places new : List (Option Place)) → Settled s exec → t < length s.claims → p ≡ prio_in exec t → r ≡ 0 →
+      new ≡ set places t (Some (record { object = wait_obj.Mutex m; priority = p; serial = serial; released = r })) → new ≡ entered t m serial s places
+  entered_is m serial p r places new settled known read none put =
       let is : p ≡ exec_of s t = read ∙ cached_is s exec settled.free settled.owners settled.right t known in
-      put ∙ ap (λ (n : ℕ). set places t (Some (record { object = wait_obj.Mutex m; priority = n; serial = serial; released = None }))) is
+      put ∙ ap (λ (n : ℕ). set places t (Some (record { object = wait_obj.Mutex m; priority = p; serial = serial; released = n }))) none
+      ∙ ap (λ (n : ℕ). set places t (Some (record { object = wait_obj.Mutex m; priority = n; serial = serial; released = 0 }))) is
 
   pub begins_waiting : (m o serial : ℕ) (places : List (Option Place)) → t < length s.claims → Settled s exec → IsPlaced s places →
       (mutex_in s.mutexes m).owner ≡ Some o → place_in places t ≡ None → closes_cycle_in s.claims s.mutexes t m ≡ false →
       Begins s (with_claim t (waiting_for (Some m)) s) exec o (entered t m serial s places)
   begins_waiting m o serial places known settled placed owned nowhere unclosed =
-      begins_entered m o serial (record { object = wait_obj.Mutex m; priority = exec_of s t; serial = serial; released = None }) places known settled placed owned nowhere unclosed refl
+      begins_entered m o serial (record { object = wait_obj.Mutex m; priority = exec_of s t; serial = serial; released = 0 }) places known settled placed owned nowhere unclosed refl
       (sym (cached_is s exec settled.free settled.owners settled.right t known))
 
   owner_is : (m o : ℕ) (own : Option ℕ) → (own ≡ None → o ≡ t) → ((x : ℕ) → own ≡ Some x → o ≡ x) → (u : ℕ) → u ≢ o → own ≢ Some u

@@ -62,7 +62,7 @@ pub record Changes (old new : Links) (before after : List (Option Place)) (resul
 
 -- the places when a thread has begun to wait for a mutex, at its execution priority
 abbrev pub entered : ℕ → ℕ → ℕ → Links → List (Option Place) → List (Option Place)
-entered t k serial s places = slice_set places t (Some (record { object = Mutex k; priority = exec_of s t; serial = serial; released = None }))
+entered t k serial s places = slice_set places t (Some (record { object = Mutex k; priority = exec_of s t; serial = serial; released = 0 }))
 
 -- the places when a thread waits no more
 abbrev pub left : ℕ → List (Option Place) → List (Option Place)

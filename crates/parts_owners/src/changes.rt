@@ -15,7 +15,7 @@ use crate::claims::{
 use crate::equations::{is_at_assigned, is_plainly_free, lends_less, lends_nothing};
 use crate::rise::rise;
 use crate::walk::{Moved, turn_alone, walk};
-use parts_waiters::{WaitObj, Waits};
+use parts_waiters::{Place, WaitObj, Waits};
 use words_numbers::{ObjId, Prio, Tid};
 
 /// The assigned priority of the thread is another.
@@ -97,7 +97,13 @@ pub(crate) fn begin_wait(
 {
     let at = exec[t.get() as usize];
     set_wait(claims, t, Some(k));
-    w.enter(WaitObj::Mutex(k), t, at, serial);
+    let place = Place {
+        object: WaitObj::Mutex(k),
+        priority: at,
+        released: ObjId::default(),
+        serial,
+    };
+    w.enter(t, place);
     rise(claims, mutexes, exec, w, k, owner)
 }
 

@@ -3,14 +3,14 @@ use Rattle.std.proofs.Common.{◌≡◌, ◌≢◌, ◌⊎◌, inl, inr, ⊎_eli
 use borrow.Author.Tests.{clash}
 use Rattle.std.proofs.lemmas.Bool.Decides.{nat_tests}
 use Rattle.std.proofs.lemmas.List.{get_or-set_same, get_or-set_other}
-use Rattle.std.specs.Prelude.{if◌then◌else◌}
+use Rattle.std.specs.Prelude.{not, ◌==◌, if◌then◌else◌}
 use Rattle.parts_links.specs.Links.{Lists, list_at, stands_at, stands_in}
 use Rattle.parts_links.proofs.Chains.{equal}
 use Rattle.parts_links.proofs.Standing.{head_in, no_head}
 use Rattle.parts_waiters.specs.declared.Place.{Place}
 use Rattle.parts_waiters.specs.declared.WaitObj.{WaitObj}
 use Rattle.parts_waiters.specs.declared.WaitObj.TheVariants.{Cond, Mutex, Receiver, Sem, Sender, SigWait}
-use Rattle.parts_waiters.specs.Bound.{AreAlike, AreAsOne, Fits, has_one, is_other, others, released_is, same_released, waits_with_other}
+use Rattle.parts_waiters.specs.Bound.{AreAlike, AreAsOne, Fits, has_one, others, released_is, waits_with_other}
 use Rattle.parts_waiters.specs.Held.{AreHeld, WaitsAt, id_of, number_of}
 use Rattle.parts_waiters.specs.Places.{place_in}
 use Rattle.parts_waiters.proofs.Serving.{some_same}
@@ -95,7 +95,7 @@ module _ (places : List (Option Place)) (links : Lists) (w : AreHeld places link
   are_as_one c k small u v hu hv =
       let a = w.only u (256 + c) hu in
       let b = w.only v (256 + c) hv in
-      ap (waits_with_other k) a.1.0 ∙ ap (is_other k) (alike c u v a.0 b.0 small a.1 b.1) ∙ sym (ap (waits_with_other k) b.1.0)
+      ap (waits_with_other k) a.1.0 ∙ ap (λ (j : ℕ). not (j == k)) (alike c u v a.0 b.0 small a.1 b.1) ∙ sym (ap (waits_with_other k) b.1.0)
 
   -- ---- whether one fits
 
@@ -105,14 +105,8 @@ module _ (places : List (Option Place)) (links : Lists) (w : AreHeld places link
       let stands : stands_at u (number_of p.object) links.lists ≡ true = subst (λ (k : ℕ). stands_at u k links.lists ≡ true) h.1 (w.stands u q h.0) in
       absurd (clash (subst (λ xs. stands_in u xs ≡ true) empty stands))
 
-  is_same : (a b : Option ℕ) → same_released a b ≡ true → b ≡ a
-  is_same None None h = refl
-  is_same (Some j) (Some k) h = let it : k ≡ j = grind (arith, nat_tests, h) in ap Some it
-  is_same None (Some k) h = absurd cc
-  is_same (Some j) None h = absurd cc
-
-  released_by : (mutex : Option ℕ) (o : Option Place) (r : Place) → o ≡ Some r → released_is mutex o ≡ true → r.released ≡ mutex
-  released_by mutex o r e h = is_same mutex r.released (sym (ap (released_is mutex) e) ∙ h)
+  released_by : (k : ℕ) (o : Option Place) (r : Place) → o ≡ Some r → released_is k o ≡ true → r.released ≡ k
+  released_by k o r e h = let it : (r.released == k) ≡ true = sym (ap (released_is k) e) ∙ h in grind (arith, nat_tests, it)
 
   pub like_first : (p : Place) (n : ℕ) (b : Bool) → Some n ≡ slice_get (list_at links.lists (number_of p.object)) 0 → b ≡ released_is p.released (place_in places n) → b ≡ true → Fits places p
   like_first p n b first is told c small at u q h =

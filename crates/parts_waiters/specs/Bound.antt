@@ -6,24 +6,15 @@ use Rattle.parts_waiters.specs.declared.WaitObj.TheVariants.{Cond}
 use Rattle.parts_waiters.specs.Held.{WaitsAt, number_of}
 use Rattle.parts_waiters.specs.Places.{place_in, waits_at}
 
--- whether a mutex was released, and it is another
-abbrev pub is_other : ℕ → Option ℕ → Bool
-is_other k None = false
-is_other k (Some j) = not (j == k)
-
+-- whether a thread at that place waits with another mutex
 abbrev pub waits_with_other : ℕ → Option Place → Bool
 waits_with_other k None = false
-waits_with_other k (Some p) = is_other k p.released
+waits_with_other k (Some p) = not (p.released == k)
 
--- the thread at that place released just that
-abbrev pub same_released : Option ℕ → Option ℕ → Bool
-same_released None None = true
-same_released (Some k) (Some j) = j == k
-same_released a b = false
-
-abbrev pub released_is : Option ℕ → Option Place → Bool
-released_is mutex None = false
-released_is mutex (Some p) = same_released mutex p.released
+-- or with that one
+abbrev pub released_is : ℕ → Option Place → Bool
+released_is k None = false
+released_is k (Some p) = p.released == k
 
 -- of each thread
 abbrev pub others : ℕ → List (Option Place) → ℕ → Bool

@@ -28,9 +28,14 @@ abbrev pub is_object : WaitObj → Option WaitObj → Bool
 is_object obj None = false
 is_object obj (Some o) = same_object o obj
 
+-- the mutex of a condition's wait, and 0 of any other
+abbrev pub released_or_zero : Option ℕ → ℕ
+released_or_zero None = 0
+released_or_zero (Some k) = k
+
 abbrev pub place_at : ℕ → ℕ → Option ℕ → Option WaitObj → Option Place
 place_at priority serial released None = None
-place_at priority serial released (Some obj) = Some (record { object = obj; priority = priority; serial = serial; released = released })
+place_at priority serial released (Some obj) = Some (record { object = obj; priority = priority; serial = serial; released = released_or_zero released })
 
 abbrev pub place_of : ℕ → Option Waiting → Option Place
 place_of priority None = None

@@ -15,10 +15,7 @@ fn is_elsewhere(place: &Option<Place>, k: ObjId) -> bool
     let Some(held) = *place else {
         return false;
     };
-    match held.released {
-        None => false,
-        Some(j) => j != k,
-    }
+    held.released != k
 }
 
 /// Whether one on the list waits with another mutex.
@@ -61,18 +58,14 @@ pub(crate) fn is_first_elsewhere(
     }
 }
 
-// Whether the thread at that place waits with that mutex, or with none where that is none.
-fn has_released(place: &Option<Place>, mutex: &Option<ObjId>) -> bool
-    ensures { result ≡ released_is mutex.now place.now }
+// Whether the thread at that place waits with that mutex.
+fn has_released(place: &Option<Place>, k: ObjId) -> bool
+    ensures { result ≡ released_is k place.now }
 {
     let Some(held) = *place else {
         return false;
     };
-    match (held.released, *mutex) {
-        (None, None) => true,
-        (Some(j), Some(k)) => j == k,
-        _ => false,
-    }
+    held.released == k
 }
 
 // Whether a thread at that place waits with the mutex of all on its list, where these wait with one: the first of them tells.
@@ -86,7 +79,7 @@ fn is_like_first(links: &Links, places: &[Option<Place>], list: u32, place: &Pla
 {
     match links.front(list) {
         None => true,
-        Some(node) => has_released(&places[node as usize], &place.released),
+        Some(node) => has_released(&places[node as usize], place.released),
     }
 }
 

@@ -11,7 +11,6 @@
 #![tactic(auto)]
 
 ghost use Rattle.std.specs.Prelude.{◌≡◌, ◌<◌, ◌≤◌, ℕ, None, Some, IfOk, IsSome, false, length, replicate, slice_set, option_map, true};
-ghost use Rattle.parts_waiters.specs.declared.WaitObj.TheVariants.{Cond};
 ghost use Rattle.parts_waiters.specs.Places.{place_in, repriced, best_of, best_for, next_of};
 ghost use Rattle.parts_waiters.specs.Bound.{WaitsElsewhere};
 ghost use Rattle.parts_waiters.specs.Held.{id_of, number_of};
@@ -49,8 +48,9 @@ pub enum WaitObj {
 pub struct Place {
     pub object: WaitObj,
     pub priority: Prio,
+    /// The mutex of a condition's wait, and 0 of any other.
+    pub released: ObjId,
     pub serial: u64,
-    pub released: Option<ObjId>,
 }
 
 /// The places of the threads that wait.
@@ -115,38 +115,8 @@ impl Waits {
         })
     }
 
-    /// The thread begins to wait.
-    pub fn enter(&mut self, obj: WaitObj, t: Tid, p: Prio, serial: u64)
-        requires known { t < length self.old }
-        requires nowhere { place_in self.old t ≡ None }
-        ensures { self.new ≡ slice_set self.old t (Some (record { object = obj; priority = p; serial = serial; released = None })) }
-    {
-        let place = Place {
-            object: obj,
-            priority: p,
-            serial,
-            released: None,
-        };
-        self.put(t, place);
-    }
-
-    /// The thread begins to wait for a condition, with that mutex.
-    pub fn enter_condition(&mut self, c: ObjId, k: ObjId, t: Tid, p: Prio, serial: u64)
-        requires known { t < length self.old }
-        requires nowhere { place_in self.old t ≡ None }
-        ensures { self.new ≡ slice_set self.old t (Some (record { object = Cond c; priority = p; serial = serial; released = Some k })) }
-    {
-        let place = Place {
-            object: WaitObj::Cond(c),
-            priority: p,
-            serial,
-            released: Some(k),
-        };
-        self.put(t, place);
-    }
-
-    // Gives the thread the place, and its stand among the waiters of the object.
-    fn put(&mut self, t: Tid, place: Place)
+    /// The thread begins to wait, at that place.
+    pub fn enter(&mut self, t: Tid, place: Place)
         requires known { t < length self.old }
         requires nowhere { place_in self.old t ≡ None }
         ensures { self.new ≡ slice_set self.old t (Some place) }
@@ -180,10 +150,10 @@ impl Waits {
         let place = Place {
             object: place.object,
             priority: p,
-            serial: place.serial,
             released: place.released,
+            serial: place.serial,
         };
-        self.put(t, place);
+        self.enter(t, place);
     }
 
     /// What the thread waits for. None exactly where it waits nowhere.

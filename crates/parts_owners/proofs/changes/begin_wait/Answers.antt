@@ -15,7 +15,7 @@ rise-requires c =
     let lt : c.args.t < length c.args.exec.now = omega (arith, c.requires.known, c.requires.settled.each) in
     let read : c.index-exec-get.result ≡ prio_in c.args.exec.now c.args.t = get_or_read c.args.exec.now c.args.t c.index-exec-get.result lt (rw c.get.ensures.value at c.index-exec-get.is) 0 in
     let put : c.enter.new.self ≡ entered c.args.t c.args.k c.args.serial old c.args.w.now =
-    entered_is old c.args.exec.now c.args.t c.args.k c.args.serial _ _ _ c.requires.settled c.requires.known read c.enter.ensures in
+    entered_is old c.args.exec.now c.args.t c.args.k c.args.serial _ _ _ _ c.requires.settled c.requires.known read c.default.ensures c.enter.ensures in
     let b : Begins old new c.args.exec.now c.args.owner (entered c.args.t c.args.k c.args.serial old c.args.w.now) =
     rw c.set_wait.ensures (begins_waiting old _ c.args.t c.args.k _ _ _ c.requires.known c.requires.settled c.requires.placed c.requires.owned c.requires.nowhere c.requires.no_cycle) in
     let within : c.args.k < length c.args.mutexes.now = owned_within c.args.mutexes.now c.args.k c.args.owner c.requires.owned in
@@ -35,7 +35,7 @@ returns c =
     let lt : c.args.t < length c.args.exec.now = omega (arith, c.requires.known, c.requires.settled.each) in
     let read : c.index-exec-get.result ≡ prio_in c.args.exec.now c.args.t = get_or_read c.args.exec.now c.args.t c.index-exec-get.result lt (rw c.get.ensures.value at c.index-exec-get.is) 0 in
     let put : c.enter.new.self ≡ entered c.args.t c.args.k c.args.serial old c.args.w.now =
-    entered_is old c.args.exec.now c.args.t c.args.k c.args.serial _ _ _ c.requires.settled c.requires.known read c.enter.ensures in
+    entered_is old c.args.exec.now c.args.t c.args.k c.args.serial _ _ _ _ c.requires.settled c.requires.known read c.default.ensures c.enter.ensures in
     let b : Begins old new c.args.exec.now c.args.owner (entered c.args.t c.args.k c.args.serial old c.args.w.now) =
     rw c.set_wait.ensures (begins_waiting old _ c.args.t c.args.k _ _ _ c.requires.known c.requires.settled c.requires.placed c.requires.owned c.requires.nowhere c.requires.no_cycle) in
     let e = c.rise.ensures in

@@ -12,5 +12,5 @@ returns c =
     let on = on_list w.places.items w.links t c.self.invariant.held asked in
     let at = read_place w.places.items t old v (subst (λ n. v ≡ get_or w.places.items n v) c.get.ensures.value c.index.ensures) c.in-Some.is on.0 in
     let left = c.leave.ensures ∙ ap (λ (ps : List (Option Place)). set ps t None) (sym c.self.view_is) in
-    c.put.ensures ∙ ap (λ (ps : List (Option Place)). set ps t (Some (record old { priority = c.args.p }))) left
+    c.enter.ensures ∙ ap (λ (ps : List (Option Place)). set ps t (Some (record old { priority = c.args.p }))) left
     ∙ repriced_is w.places.items t c.args.p old at ∙ ap (λ (ps : List (Option Place)). repriced t c.args.p ps) c.self.view_is

@@ -10,8 +10,8 @@ use Rattle.parts_waiters.specs.Places.{candidate_of, place_in}
 use Rattle.parts_waiters.specs.Service.{stood_at}
 use Rattle.parts_waiters.proofs.Alike.{stays_alike}
 use Rattle.parts_waiters.proofs.Waiting.{off, entered}
-use Rattle.parts_waiters.proofs.Waits.put.Goals as goal
-use Rattle.parts_waiters.proofs.Waits.put.Goals.{then-self, else-self}
+use Rattle.parts_waiters.proofs.Waits.enter.Goals as goal
+use Rattle.parts_waiters.proofs.Waits.enter.Goals.{then-self, else-self}
 
 pub stand-requires-clause-node : goal.stand-requires-clause-node
 stand-requires-clause-node c =
