@@ -177,6 +177,6 @@ fn stand_at(
         released,
         serial,
     };
-    waits.enter(t, place);
+    waits.enter(t, &place);
     None
 }

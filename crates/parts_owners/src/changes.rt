@@ -103,7 +103,7 @@ pub(crate) fn begin_wait(
         released: ObjId::default(),
         serial,
     };
-    w.enter(t, place);
+    w.enter(t, &place);
     rise(claims, mutexes, exec, w, k, owner)
 }
 

@@ -116,16 +116,16 @@ impl Waits {
     }
 
     /// The thread begins to wait, at that place.
-    pub fn enter(&mut self, t: Tid, place: Place)
+    pub fn enter(&mut self, t: Tid, place: &Place)
         requires known { t < length self.old }
         requires nowhere { place_in self.old t ≡ None }
-        ensures { self.new ≡ slice_set self.old t (Some place) }
+        ensures { self.new ≡ slice_set self.old t (Some place.now) }
     {
         let list = place.object.number();
-        let waiter = Candidate::of(t.get() as u32, &place);
-        let alike = self.alike && fits(&self.links, &self.places, list, &place);
+        let waiter = Candidate::of(t.get() as u32, place);
+        let alike = self.alike && fits(&self.links, &self.places, list, place);
         stand(&mut self.links, &self.places, list, waiter);
-        self.places[t.get() as usize] = Some(place);
+        self.places[t.get() as usize] = Some(*place);
         self.alike = alike;
     }
 
@@ -153,7 +153,7 @@ impl Waits {
             released: place.released,
             serial: place.serial,
         };
-        self.enter(t, place);
+        self.enter(t, &place);
     }
 
     /// What the thread waits for. None exactly where it waits nowhere.

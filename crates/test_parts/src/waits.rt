@@ -59,9 +59,9 @@ fn best(waits: &Waits) -> Option<u16> {
 fn waiters_stand_in_the_order_of_service(rt: HostRuntime) {
     let mut waits = Waits::open(rt.alloc(), 4).expect(&rt, "memory");
     let (a, b, c) = (thread(0), thread(1), thread(2));
-    waits.enter(a, place(mutex(), prio(10), 1));
-    waits.enter(b, place(mutex(), prio(20), 2));
-    waits.enter(c, place(mutex(), prio(20), 3));
+    waits.enter(a, &place(mutex(), prio(10), 1));
+    waits.enter(b, &place(mutex(), prio(20), 2));
+    waits.enter(c, &place(mutex(), prio(20), 3));
     let order = [
         waits.best(mutex()),
         waits.next_waiter(b),
@@ -75,9 +75,9 @@ fn waiters_stand_in_the_order_of_service(rt: HostRuntime) {
 fn a_waiter_rises_and_leaves(rt: HostRuntime) {
     let mut waits = Waits::open(rt.alloc(), 3).expect(&rt, "memory");
     assert_eq!(rt; best(&waits), None);
-    waits.enter(thread(0), place(mutex(), prio(10), 1));
-    waits.enter(thread(1), place(mutex(), prio(20), 2));
-    waits.enter(thread(2), place(WaitObj::Sem(object(7)), prio(30), 4));
+    waits.enter(thread(0), &place(mutex(), prio(10), 1));
+    waits.enter(thread(1), &place(mutex(), prio(20), 2));
+    waits.enter(thread(2), &place(WaitObj::Sem(object(7)), prio(30), 4));
     assert_eq!(rt; best(&waits), Some(1));
     waits.reprio(thread(0), prio(20));
     assert_eq!(rt; best(&waits), Some(0));
@@ -93,8 +93,8 @@ fn a_waiter_rises_and_leaves(rt: HostRuntime) {
 #[test]
 fn waiters_for_signals_by_their_sets(rt: HostRuntime) {
     let mut waits = Waits::open(rt.alloc(), 2).expect(&rt, "memory");
-    waits.enter(thread(0), place(WaitObj::SigWait, prio(10), 1));
-    waits.enter(thread(1), place(WaitObj::SigWait, prio(20), 2));
+    waits.enter(thread(0), &place(WaitObj::SigWait, prio(10), 1));
+    waits.enter(thread(1), &place(WaitObj::SigWait, prio(20), 2));
     let sets = TwoSets {
         sets: [SigSet::new(3), SigSet::new(2)],
     };
@@ -110,14 +110,14 @@ fn waiters_for_signals_by_their_sets(rt: HostRuntime) {
 fn a_condition_is_bound_to_the_mutex_of_its_waiters(rt: HostRuntime) {
     let mut waits = Waits::open(rt.alloc(), 3).expect(&rt, "memory");
     let (c, k, other) = (object(1), object(2), object(3));
-    waits.enter(thread(0), condition_place(c, k, prio(10), 1));
+    waits.enter(thread(0), &condition_place(c, k, prio(10), 1));
     let alike = [
         waits.is_bound_elsewhere(c, k),
         waits.is_bound_elsewhere(c, other),
         waits.is_bound_elsewhere(other, k),
     ];
     assert_eq!(rt; alike, [false, true, false]);
-    waits.enter(thread(1), condition_place(c, other, prio(20), 2));
+    waits.enter(thread(1), &condition_place(c, other, prio(20), 2));
     let mixed = [
         waits.is_bound_elsewhere(c, k),
         waits.is_bound_elsewhere(c, other),
@@ -140,8 +140,8 @@ fn open_for_all(alloc: Global) -> Result<Waits, AllocError>
 fn the_last_thread_waits_for_the_last_object(rt: HostRuntime) {
     let mut waits = open_for_all(rt.alloc()).expect(&rt, "memory");
     let last = object(255);
-    waits.enter(thread(255), condition_place(last, object(0), prio(10), 1));
-    waits.enter(thread(64), place(WaitObj::Sem(last), prio(10), 2));
+    waits.enter(thread(255), &condition_place(last, object(0), prio(10), 1));
+    waits.enter(thread(64), &place(WaitObj::Sem(last), prio(10), 2));
     let best = [
         waits.best(WaitObj::Cond(last)),
         waits.best(WaitObj::Sem(last)),

@@ -19,11 +19,11 @@ stand-requires-clause-node c =
     let known = subst (λ (ps : List (Option Place)). c.args.t < length ps) (sym c.self.view_is) c.requires.known in
     let none = subst (λ (ps : List (Option Place)). place_in ps c.args.t ≡ None) (sym c.self.view_is) c.requires.nowhere in
     let number : c.of-waiter.result.thread ≡ c.args.t = ap (λ (x : Candidate). x.thread) c.of-waiter.ensures ∙ c.get.ensures.value in
-    (omega (arith, number, c.get.ensures.small, c.get.ensures.value), subst (λ n. on_a_list n w.links.lists ≡ false) (sym number) (off w.places.items w.links c.args.t c.args.place c.self.invariant.held none known))
+    (omega (arith, number, c.get.ensures.small, c.get.ensures.value), subst (λ n. on_a_list n w.links.lists ≡ false) (sym number) (off w.places.items w.links c.args.t c.args.place.now c.self.invariant.held none known))
 
 pub invariant_of-self : goal.invariant_of-self
 invariant_of-self c =
-    let w = c.self.inside in let p = c.args.place in
+    let w = c.self.inside in let p = c.args.place.now in
     let known = subst (λ (ps : List (Option Place)). c.args.t < length ps) (sym c.self.view_is) c.requires.known in
     let none = subst (λ (ps : List (Option Place)). place_in ps c.args.t ≡ None) (sym c.self.view_is) c.requires.nowhere in
     let is = c.stand.ensures
