@@ -1,10 +1,11 @@
 -- A thread that owns nothing may wait for any mutex.
-use Rattle.std.proofs.Common.{◌≡◌, ℕ, zero, suc, Bool, true, false, List, [], ◌∷◌, Option, None, Some, length, refl}
-use Rattle.std.specs.Prelude.{IsSome, filter, option_and_then, slice_index_or, ◌<◌}
+use Rattle.std.proofs.Common.{◌≡◌, ◌∙◌, ℕ, zero, suc, Bool, true, false, List, [], ◌∷◌, Option, None, Some, length, refl, sym}
+use Rattle.std.specs.Prelude.{IsSome, filter, is_some, option_and_then, slice_index_or, ◌<◌}
 use Rattle.rules_bodies.specs.declared.cursor.Cursor.{Cursor}
 use Rattle.rules_machine.specs.Lists.{is}
-use Rattle.rules_machine.specs.State.{Machine, Mutex}
-use Rattle.rules_machine.specs.Threads.{mutex_at, no_mutex, thread_in}
+use Rattle.rules_machine.specs.State.{Machine, Mutex, Waiting}
+use Rattle.rules_machine.specs.Conditions.{released_mutex}
+use Rattle.rules_machine.specs.Threads.{is_blocked, mutex_at, no_mutex, thread_at, thread_in, waiting_of}
 use Rattle.rules_machine.specs.Priorities.{mutex_awaited_by}
 use Rattle.rules_machine.specs.Mutexes.{leads_within, owner_of_awaited}
 use Rattle.kernel_state.specs.Waits.{CanWait}
@@ -42,3 +43,12 @@ module _ (m : Machine Cursor) (t : ℕ) (none : OwnsNone m t) where
 
   pub can_wait : (k : ℕ) → k < length m.mutexes → ((mutex_at m k).owner ≡ None → ⊥) → CanWait m t (Some k)
   can_wait k known owned = (known, owned_is (mutex_at m k).owner owned, never_leads (length m.threads) (Some k))
+
+-- a thread whose wait released a mutex is blocked
+pub released_blocked : (m : Machine Cursor) (t k : ℕ) (o : Option ℕ) → o ≡ Some k → o ≡ option_and_then (λ (w : Waiting). released_mutex w.wait) (waiting_of m t) →
+    is_blocked (thread_at m t).status ≡ true
+released_blocked m t k o some is = by_waiting (waiting_of m t) (sym is ∙ some)
+  where
+    by_waiting : (w : Option Waiting) → option_and_then (λ (v : Waiting). released_mutex v.wait) w ≡ Some k → is_some w ≡ true
+    by_waiting None e = absurd cc
+    by_waiting (Some w) e = refl

@@ -1,12 +1,12 @@
 //! Conditions.
-ghost use Rattle.std.specs.Prelude.{◌≡◌, ◌<◌, ◌^◌, None, Some, IfSome, length};
+ghost use Rattle.std.specs.Prelude.{◌≡◌, ◌<◌, ◌^◌, None, Some, IfSome, length, true};
 ghost use Rattle.words_numbers.specs.declared.res.Res.TheVariants as res;
 ghost use Rattle.rules_machine.specs.declared.thread.CondEnd.TheVariants as cond_end;
 ghost use Rattle.rules_machine.specs.Conditions.{broadcasts, contends, reacquires_or_waits, signals, signals_best, signals_best_times, waits, waits_on_condition};
 ghost use Rattle.rules_machine.specs.Mutexes.{releases, returns_from_wait, taken_by};
 ghost use Rattle.rules_machine.specs.Priorities.{mutex_awaited_by};
 ghost use Rattle.rules_machine.specs.State.{for_condition};
-ghost use Rattle.rules_machine.specs.Threads.{mutex_at, thread_at};
+ghost use Rattle.rules_machine.specs.Threads.{is_blocked, mutex_at, thread_at};
 ghost use Rattle.rules_machine.specs.Turns.{changes_mutex, returns, ◌▷◌};
 ghost use Rattle.rules_machine.specs.Waiters.{waiters};
 ghost use Rattle.rules_machine.specs.Waking.{blocks};
@@ -61,6 +61,7 @@ fn reacquire_or_wait<K: Sink>(
 )
     requires can { CanRise p.old t }
     requires mutex { k < length p.old.machine.mutexes }
+    requires blocked { is_blocked (thread_at p.old.machine t).status ≡ true }
     requires waits_not { mutex_awaited_by (thread_at p.old.machine t) ≡ None }
     requires own_none { OwnsNone p.old.machine t }
     requires serial { p.old.machine.next_serial < 2 ^ 63 }
@@ -74,6 +75,7 @@ fn reacquire_or_wait<K: Sink>(
 }
 
 /// A thread leaves its condition, and owns its mutex again at once or waits for it.
+#[tactic(auto, using(crate::proofs::Contending::released_blocked))]
 pub fn contend<K: Sink>(p: &mut Parts, t: Tid, how: CondEnd, out: &mut Tracer<'_, K>)
     requires known { t < length p.old.names }
     requires can { CanContend p.old }

@@ -12,7 +12,7 @@ ghost use Rattle.kernel_state.specs.RealTimes.{MayWaitUntil};
 ghost use Rattle.kernel_state.specs.Waits.{CanWait};
 
 use crate::parts::Parts;
-use kernel_threads::{Wait, Waiting};
+use kernel_threads::Wait;
 use parts_io::Sink;
 use parts_tracer::Tracer;
 use rules_machine::call_name;
@@ -52,15 +52,7 @@ impl Parts {
         ensures { self.new ≡ after (blocks (caller by.now) (wait_of wait) due) self.old }
     {
         let serial = self.take_serial();
-        self.block_runner(
-            by.thread,
-            Waiting {
-                wait,
-                serial,
-                due,
-                call: *by.call,
-            },
-        );
+        self.block_runner(by.thread, &wait, serial, &due, by.call);
     }
 
     /// A wait with no order among its waiters.
@@ -72,14 +64,6 @@ impl Parts {
         requires modest { MayWaitUntil self.old.machine by.now.call.now due }
         ensures { self.new ≡ after (blocks_unordered (caller by.now) (wait_of wait) due) self.old }
     {
-        self.block_runner(
-            by.thread,
-            Waiting {
-                wait,
-                serial: 0,
-                due,
-                call: *by.call,
-            },
-        );
+        self.block_runner(by.thread, &wait, 0, &due, by.call);
     }
 }

@@ -3,7 +3,8 @@ ghost use Rattle.std.specs.Prelude.{◌≡◌, ◌≤◌, ◌<◌, ◌^◌, leng
 ghost use Rattle.rules_server.specs.Server.{activate};
 ghost use Rattle.rules_machine.specs.Servers.{with_server};
 ghost use Rattle.kernel_threads.specs.Unused.{IsUnused};
-ghost use Rattle.rules_machine.specs.Threads.{thread_at};
+ghost use Rattle.rules_machine.specs.State.{for_mutex_again};
+ghost use Rattle.rules_machine.specs.Threads.{is_blocked, thread_at, waiting_of as waiting_at};
 ghost use Rattle.rules_machine.specs.Lives.{without_life};
 ghost use Rattle.rules_machine.specs.Scheduling.{takes_priority, with_policy, with_priority};
 ghost use Rattle.rules_machine.specs.Waking.{new_frame, started};
@@ -11,9 +12,9 @@ ghost use Rattle.rules_machine.specs.Ticks.{without_slice};
 ghost use Rattle.script_code.specs.Fetched.{call_of};
 ghost use Rattle.rules_flat_code.specs.FlatBodies.{flat_bodies};
 ghost use Rattle.rules_machine.specs.Turns.{answered, changes};
-ghost use Rattle.rules_machine.specs.Waking.{put_to_wait, woken};
+ghost use Rattle.rules_machine.specs.Waking.{call_in, put_to_wait, woken};
 ghost use Rattle.rules_machine.specs.Priorities.{mutex_awaited_by, mutex_waited};
-ghost use Rattle.kernel_threads.specs.Plain.{wait_of, waiting_of};
+ghost use Rattle.kernel_threads.specs.Plain.{wait_of};
 ghost use Rattle.kernel_state.specs.RealTimes.{MayWaitUntil};
 ghost use Rattle.kernel_state.specs.Waits.{CanWait};
 ghost use Rattle.kernel_state.specs.Kernel.{after};
@@ -24,11 +25,11 @@ ghost use Rattle.kernel_threads.specs.Ends.{refilled_of};
 ghost use Rattle.kernel_state.specs.Callers.{IsRunning};
 
 use crate::parts::Parts;
-use kernel_threads::{Frame, Refilled, Waiting};
+use kernel_threads::{Frame, Refilled, Wait};
 use parts_server::Replenish;
-use rules_machine::{BodyOf, FrameKind};
+use rules_machine::{BodyOf, CondEnd, FrameKind};
 use script_code::CallPlace;
-use words_numbers::{Prio, Res, SigSet, Tid};
+use words_numbers::{ObjId, Prio, Res, SigSet, Tick, Tid};
 use words_script::{Call, Policy};
 
 impl Parts {
@@ -48,30 +49,38 @@ impl Parts {
         self.named.take_in(&moved);
     }
 
+    // A blocked thread waits on in its call, for that mutex.
     #[inline(always)]
     #[tactic(auto, using(crate::proofs::Waits::can_await))]
-    pub(crate) fn block_thread(&mut self, t: Tid, waiting: Waiting)
+    pub(crate) fn keep_blocked(&mut self, t: Tid, k: ObjId, how: CondEnd, serial: u64)
         requires known { t < length self.old.names }
+        requires blocked { is_blocked (thread_at self.old.machine t).status ≡ true }
         requires waits_not { mutex_awaited_by (thread_at self.old.machine t) ≡ None }
-        requires may { CanWait self.old.machine t (mutex_waited (wait_of waiting.wait)) }
-        requires modest { MayWaitUntil self.old.machine waiting.call waiting.due }
-        ensures { self.new ≡ after (changes t (put_to_wait (waiting_of waiting))) self.old }
+        requires may { CanWait self.old.machine t (Some k) }
+        ensures { self.new ≡ after (changes t (put_to_wait (record { wait = for_mutex_again k how; serial = serial; due = None; call = call_in (waiting_at self.old.machine t) }))) self.old }
     {
         self.named.add(t);
-        let moved = self.table.block(t, waiting);
+        let moved = self.table.block_again(t, k, how, serial);
         self.named.take_in(&moved);
     }
 
-    // The same of a thread that can run.
+    // A thread that can run waits.
     #[inline(always)]
     #[tactic(auto, using(crate::proofs::Waits::can_await))]
-    pub(crate) fn block_runner(&mut self, t: Tid, waiting: Waiting)
+    pub(crate) fn block_runner(
+        &mut self,
+        t: Tid,
+        wait: &Wait,
+        serial: u64,
+        due: &Option<Tick>,
+        call: &Call,
+    )
         requires caller { IsRunning self.old t }
-        requires may { CanWait self.old.machine t (mutex_waited (wait_of waiting.wait)) }
-        requires modest { MayWaitUntil self.old.machine waiting.call waiting.due }
-        ensures { self.new ≡ after (changes t (put_to_wait (waiting_of waiting))) self.old }
+        requires may { CanWait self.old.machine t (mutex_waited (wait_of wait.now)) }
+        requires modest { MayWaitUntil self.old.machine call.now due.now }
+        ensures { self.new ≡ after (changes t (put_to_wait (record { wait = wait_of wait.now; serial = serial; due = due.now; call = call.now }))) self.old }
     {
-        let moved = self.table.block_runner(t, waiting);
+        let moved = self.table.block_runner(t, wait, serial, due, call);
         self.named.add(t);
         self.named.take_in(&moved);
     }

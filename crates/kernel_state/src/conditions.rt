@@ -1,18 +1,17 @@
 //! Who waits for a condition, and what its end asks for.
-ghost use Rattle.std.specs.Prelude.{◌≡◌, ◌<◌, ◌^◌, None, Some, length, option_and_then};
+ghost use Rattle.std.specs.Prelude.{◌≡◌, ◌<◌, ◌^◌, None, Some, length, option_and_then, true};
 ghost use Rattle.rules_machine.specs.Conditions.{released_mutex, waits_with_other_mutex};
 ghost use Rattle.rules_machine.specs.Mutexes.{owned_by};
 ghost use Rattle.rules_machine.specs.Priorities.{mutex_awaited_by};
 ghost use Rattle.rules_machine.specs.State.{for_mutex_again};
 ghost use Rattle.rules_machine.specs.State as machine;
-ghost use Rattle.rules_machine.specs.Threads.{thread_at, waiting_of as waiting_at};
+ghost use Rattle.rules_machine.specs.Threads.{is_blocked, thread_at, waiting_of as waiting_at};
 ghost use Rattle.rules_machine.specs.Waiters.{somebody_waits};
 ghost use Rattle.rules_machine.specs.Waking.{blocks, call_in};
 ghost use Rattle.kernel_state.specs.Kernel.{after, by};
 ghost use Rattle.kernel_state.specs.Waits.{CanWait};
 
 use crate::parts::Parts;
-use kernel_threads::{Wait, Waiting};
 use rules_machine::CondEnd;
 use words_numbers::{ObjId, Tid};
 
@@ -46,21 +45,13 @@ impl Parts {
     /// A thread in a condition wait, which has ended, waits for its mutex, in the same call.
     pub fn block_again(&mut self, t: Tid, k: ObjId, how: CondEnd)
         requires known { t < length self.old.names }
+        requires blocked { is_blocked (thread_at self.old.machine t).status ≡ true }
         requires waits_not { mutex_awaited_by (thread_at self.old.machine t) ≡ None }
         requires serial { self.old.machine.next_serial < 2 ^ 63 }
         requires may { CanWait self.old.machine t (Some k) }
         ensures { self.new ≡ after (blocks (by t (call_in (waiting_at self.old.machine t))) (for_mutex_again k how) None) self.old }
     {
-        let call = self.thread(t).waiting_call();
         let serial = self.take_serial();
-        self.block_thread(
-            t,
-            Waiting {
-                wait: Wait::MutexAgain(k, how),
-                serial,
-                due: None,
-                call,
-            },
-        );
+        self.keep_blocked(t, k, how, serial);
     }
 }

@@ -175,18 +175,18 @@ set_both a b t p h =
 pub begun_tied : (threads : List (Thread Cursor)) (chain mid new_chain : Links) (places between after : List (Option Place)) (t : ℕ) (w : Waiting) (new : Thread Cursor) →
     t < length threads → new ≡ put_to_wait w (thread_in threads t) →
     mid ≡ with_claim t (waiting_for None) chain → ArePriced mid (left t places) between →
-    new_chain ≡ with_claim t (waiting_for (mutex_waited w.wait)) mid → ArePriced new_chain (begun mid t w between) after → IsTied threads chain places →
+    new_chain ≡ with_claim t (waiting_for (mutex_waited w.wait)) mid → ArePriced new_chain (begun mid t w.wait w.serial between) after → IsTied threads chain places →
     IsTied (slice_set threads t new) new_chain after
 begun_tied threads chain mid new_chain places between after t w new known is first priced_first second priced_second tied =
     let f = put_to_wait w in
     let g : Claim → Claim = λ (c : Claim). waiting_for (mutex_waited w.wait) (waiting_for None c) in
     let both : new_chain ≡ with_claim t g chain = second ∙ ap (λ (s : Links). with_claim t (waiting_for (mutex_waited w.wait)) s) first
     ∙ ap (λ (cs : List Claim). links_of cs chain.mutexes) (changed-twice no_claim t (waiting_for None) (waiting_for (mutex_waited w.wait)) chain.claims) in
-    let p = beginning mid t w in
+    let p = beginning mid t w.wait w.serial in
     subst (λ (th : Thread Cursor). IsTied (slice_set threads t th) new_chain after) (sym is)
     (moved_tied threads chain new_chain places (slice_set places t p) after t f g both refl
     (wait_set threads chain places t f p known (bare_at (exec_of mid t) 0 w.serial (released_mutex w.wait) (object_of w.wait)) tied)
-    (record { same = same_both (slice_set places t p) (begun mid t w between) after (set_both places between t p priced_first.same) priced_second.same; stand = priced_second.stand }) tied)
+    (record { same = same_both (slice_set places t p) (begun mid t w.wait w.serial between) after (set_both places between t p priced_first.same) priced_second.same; stand = priced_second.stand }) tied)
 
 -- ---- mutexes
 

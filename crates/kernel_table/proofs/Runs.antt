@@ -1,10 +1,12 @@
 -- Where a thread that can run, or waits for an instant, stands among the waiters and in the wheel.
-use Rattle.std.proofs.Common.{◌≡◌, ◌<◌, ◌+◌, ◌∙◌, ℕ, List, true, false, None, Option, Some, is_some, length, refl}
+use Rattle.std.proofs.Common.{◌≡◌, ◌<◌, ◌+◌, ◌∙◌, ℕ, List, true, false, None, Option, Some, ap, is_some, length, refl}
 use Rattle.rules_bodies.specs.declared.cursor.Cursor.{Cursor}
 use Rattle.rules_machine.specs.Conditions.{released_mutex}
 use Rattle.rules_machine.specs.Priorities.{claims, exec_in}
 use Rattle.rules_machine.specs.State.{Status, Thread, Timer, Wait, Waiting, blocked, dormant, ended, for_condition, for_end, for_message, for_mutex, for_mutex_again, for_room, for_semaphore, for_signal, for_time, runnable}
-use Rattle.rules_machine.specs.Threads.{is_runnable, thread_in, waiting_in}
+use Rattle.rules_machine.specs.declared.thread.CondEnd.{CondEnd}
+use Rattle.rules_machine.specs.Threads.{is_blocked, is_runnable, thread_in, waiting_in}
+use Rattle.rules_machine.specs.Waking.{call_in, put_to_wait}
 use Rattle.parts_waiters.specs.declared.Place.{Place}
 use Rattle.parts_waiters.specs.Places.{place_in}
 use Rattle.parts_waiters.specs.Ties.{object_of, place_at, place_of}
@@ -101,3 +103,25 @@ sleeper_nowhere threads chain places t known sleeps tied = tied.waiting.each t k
 pub sleeper_started : (threads : List (Thread Cursor)) (timers : List Timer) (dues : List (Option ℕ)) (t : ℕ) → t < 256 → waits_for_time (waiting_in (thread_in threads t).status) ≡ true →
     AreArmed threads timers dues → due_of (256 + t) dues ≡ None
 sleeper_started threads timers dues t small sleeps armed = armed.starts t small ∙ sleeps_started (thread_in threads t) sleeps
+
+-- ---- a thread that is blocked, and waits again in the same call
+
+blocked_unstarted : (th : Thread Cursor) → is_blocked th.status ≡ true → start_of th ≡ None
+blocked_unstarted th h = by_status th.status h
+  where
+    by_status : (status : Status) → is_blocked status ≡ true → start_of (record th { status = status }) ≡ None
+    by_status (dormant at) e = off e
+    by_status runnable e = refl
+    by_status (blocked w) e = refl
+    by_status ended e = refl
+
+pub blocked_started : (threads : List (Thread Cursor)) (timers : List Timer) (dues : List (Option ℕ)) (t : ℕ) → t < 256 → is_blocked (thread_in threads t).status ≡ true →
+    AreArmed threads timers dues → due_of (256 + t) dues ≡ None
+blocked_started threads timers dues t small is armed = armed.starts t small ∙ blocked_unstarted (thread_in threads t) is
+
+abbrev pub again : ℕ → CondEnd → ℕ → Thread Cursor → Waiting
+again k how serial th = record { wait = for_mutex_again k how; serial = serial; due = None; call = call_in (waiting_in th.status) }
+
+-- the thread that is read is that of the table
+pub waits_again : (k : ℕ) (how : CondEnd) (serial : ℕ) (new th old : Thread Cursor) → new ≡ put_to_wait (again k how serial th) th → th ≡ old → new ≡ put_to_wait (again k how serial old) old
+waits_again k how serial new th old is read = is ∙ ap (λ (x : Thread Cursor). put_to_wait (again k how serial x) x) read

@@ -1,7 +1,7 @@
 -- What the chain does to the places of waiters as a claim or an owner changes.
 use Rattle.std.specs.Prelude.{◌≡◌, ◌<◌, ℕ, IsSome, List, None, Option, Some, false, length, slice_set}
 use Rattle.rules_machine.specs.Conditions.{released_mutex}
-use Rattle.rules_machine.specs.State.{Waiting}
+use Rattle.rules_machine.specs.State.{Wait}
 use Rattle.parts_waiters.specs.Ties.{object_of, place_at}
 use Rattle.parts_waiters.specs.declared.Place.{Place}
 use Rattle.parts_owners.specs.Chains.{Links, closes_cycle_in, exec_of, mutex_at}
@@ -27,11 +27,11 @@ pub record Relinks (links : Links) (places : List (Option Place)) (old new : Lin
   pub moved : TellsMoved (length old.claims) (exec_of old) (exec_of new) after result
 
 -- the place of a thread that begins to wait at its execution priority
-abbrev pub beginning : Links → ℕ → Waiting → Option Place
-beginning chain t w = place_at (exec_of chain t) w.serial (released_mutex w.wait) (object_of w.wait)
+abbrev pub beginning : Links → ℕ → Wait → ℕ → Option Place
+beginning chain t wait serial = place_at (exec_of chain t) serial (released_mutex wait) (object_of wait)
 
-abbrev pub begun : Links → ℕ → Waiting → List (Option Place) → List (Option Place)
-begun chain t w places = slice_set places t (beginning chain t w)
+abbrev pub begun : Links → ℕ → Wait → ℕ → List (Option Place) → List (Option Place)
+begun chain t wait serial places = slice_set places t (beginning chain t wait serial)
 
 -- a mutex that is to be awaited is owned, and to await it closes no cycle
 abbrev pub MayAwait : Links → ℕ → Option ℕ → Type 0

@@ -3,12 +3,12 @@ ghost use Rattle.std.specs.Prelude.{◌≡◌, ◌<◌, IfSome, IsSome, None, So
 ghost use Rattle.rules_machine.specs.Priorities.{assigned_of, mutex_waited};
 ghost use Rattle.rules_machine.specs.Threads.{thread_in};
 ghost use Rattle.parts_waiters.specs.Places.{place_in};
-ghost use Rattle.kernel_threads.specs.Plain.{wait_of, waiting_of};
+ghost use Rattle.kernel_threads.specs.Plain.{wait_of};
 ghost use Rattle.parts_owners.specs.Chains.{assigned_at, assigned_to, awaited_in, exec_of, waiting_for, with_claim};
 ghost use Rattle.parts_owners.specs.Moves.{TellsMoved, entered, left, mutex_named};
 ghost use Rattle.kernel_table.specs.Moves.{ArePriced, CanRelink, MayAwait, Relinks, begun};
 
-use kernel_threads::{Threads, Wait, Waiting};
+use kernel_threads::{Threads, Wait};
 use parts_owners::{Chain, Moved};
 use parts_waiters::{Place, WaitObj, Waits};
 use words_numbers::{ObjId, Tid};
@@ -117,31 +117,38 @@ pub(crate) fn begin_waiting(
     chain: &mut Chain,
     waits: &mut Waits,
     t: Tid,
-    w: &Waiting,
+    wait: &Wait,
+    serial: u64,
 ) -> Option<Moved>
     requires can { CanRelink chain.old waits.old t }
     requires nowhere { place_in waits.old t ≡ None }
-    requires may { MayAwait chain.old t (mutex_waited (wait_of w.now.wait)) }
-    ensures chain { chain.new ≡ with_claim t (waiting_for (mutex_waited (wait_of w.now.wait))) chain.old }
-    ensures waits { ArePriced chain.new (begun chain.old t (waiting_of w.now) waits.old) waits.new }
+    requires may { MayAwait chain.old t (mutex_waited (wait_of wait.now)) }
+    ensures chain { chain.new ≡ with_claim t (waiting_for (mutex_waited (wait_of wait.now))) chain.old }
+    ensures waits { ArePriced chain.new (begun chain.old t (wait_of wait.now) serial waits.old) waits.new }
     ensures moved { TellsMoved (length chain.old.claims) (exec_of chain.old) (exec_of chain.new) waits.new result }
 {
     let none = ObjId::default();
-    match w.wait {
-        Wait::Mutex(k) => await_mutex(chain, waits, t, k, w.serial),
-        Wait::MutexAgain(k, _) => await_mutex(chain, waits, t, k, w.serial),
-        Wait::Condition(c, k) => stand_at(chain, waits, t, WaitObj::Cond(c), k, w.serial),
-        Wait::Semaphore(k) => stand_at(chain, waits, t, WaitObj::Sem(k), none, w.serial),
-        Wait::Room(q, _) => stand_at(chain, waits, t, WaitObj::Sender(q), none, w.serial),
-        Wait::Message(q) => stand_at(chain, waits, t, WaitObj::Receiver(q), none, w.serial),
-        Wait::Signal(_) => stand_at(chain, waits, t, WaitObj::SigWait, none, w.serial),
+    match *wait {
+        Wait::Mutex(k) => await_mutex(chain, waits, t, k, serial),
+        Wait::MutexAgain(k, _) => await_mutex(chain, waits, t, k, serial),
+        Wait::Condition(c, k) => stand_at(chain, waits, t, WaitObj::Cond(c), k, serial),
+        Wait::Semaphore(k) => stand_at(chain, waits, t, WaitObj::Sem(k), none, serial),
+        Wait::Room(q, _) => stand_at(chain, waits, t, WaitObj::Sender(q), none, serial),
+        Wait::Message(q) => stand_at(chain, waits, t, WaitObj::Receiver(q), none, serial),
+        Wait::Signal(_) => stand_at(chain, waits, t, WaitObj::SigWait, none, serial),
         Wait::End(_) => None,
         Wait::Time => None,
     }
 }
 
-// It awaits a mutex.
-fn await_mutex(chain: &mut Chain, waits: &mut Waits, t: Tid, k: ObjId, serial: u64) -> Option<Moved>
+/// It awaits a mutex.
+pub(crate) fn await_mutex(
+    chain: &mut Chain,
+    waits: &mut Waits,
+    t: Tid,
+    k: ObjId,
+    serial: u64,
+) -> Option<Moved>
     requires can { CanRelink chain.old waits.old t }
     requires nowhere { place_in waits.old t ≡ None }
     requires may { MayAwait chain.old t (Some k) }

@@ -1,7 +1,7 @@
 //! The threads and timers that hold a reading of CLOCK_REALTIME, by their numbers.
 ghost use Rattle.std.specs.Prelude.{◌≡◌, ◌<◌, IfSome, MatchOption, false, is_some, length};
-ghost use Rattle.kernel_threads.specs.Plain.{waiting_of};
-ghost use Rattle.kernel_threads.specs.RealDues.{real_due};
+ghost use Rattle.rules_machine.specs.Clock.{waits_on_real};
+ghost use Rattle.kernel_threads.specs.RealDues.{real_due_if};
 ghost use Rattle.kernel_timers.specs.Timers.{timer_in};
 ghost use Rattle.parts_bits.specs.Sets.{Turns, has};
 ghost use Rattle.kernel_table.specs.Table as table;
@@ -11,32 +11,23 @@ ghost use Rattle.kernel_table.specs.RealItems.{IsFirstExpiry, IsFirstWait, NoExp
 use crate::open::tid_of;
 use crate::rare_set::RareSet;
 use crate::table::Table;
-use kernel_threads::Waiting;
 use kernel_timers::{Timer, Timers};
 use words_numbers::{ObjId, Tick, Tid};
+use words_script::Call;
 
-/// The thread waits from now on.
+/// The thread, which could run and so is not in the set, waits from now on, in that call.
 #[inline(always)]
-pub(crate) fn keep_wait(real_waits: &mut RareSet, t: Tid, waiting: &Waiting)
-    requires { t < 256 }
-    ensures { Turns t (is_some (real_due (waiting_of waiting.now))) real_waits.old real_waits.new }
-{
-    real_waits.turn(t.get(), waiting.real_due().is_some());
-}
-
-/// The same of a thread that could run, and so is not in the set.
-#[inline(always)]
-pub(crate) fn keep_runner(real_waits: &mut RareSet, t: Tid, waiting: &Waiting)
+pub(crate) fn keep_runner(real_waits: &mut RareSet, t: Tid, due: &Option<Tick>, call: &Call)
     requires thread { t < 256 }
     requires runs { has t real_waits.old ≡ false }
-    ensures { Turns t (is_some (real_due (waiting_of waiting.now))) real_waits.old real_waits.new }
+    ensures { Turns t (is_some (real_due_if due.now (waits_on_real call.now))) real_waits.old real_waits.new }
 {
-    if waiting.real_due().is_some() {
+    if kernel_threads::real_due(due, call).is_some() {
         real_waits.add(t.get());
     }
 }
 
-/// The thread waits no more.
+/// The thread waits no more, or without a limit.
 #[inline(always)]
 pub(crate) fn drop_wait(real_waits: &mut RareSet, t: Tid)
     requires { t < 256 }

@@ -70,14 +70,14 @@ pub(crate) fn end_sleep(wheel: &mut Wheel, t: Tid)
 
 /// The thread, which can run, begins a wait that ends then by itself; with `None` it waits without a limit.
 #[inline(always)]
-pub(crate) fn time_runner(wheel: &mut Wheel, t: Tid, due: Option<Tick>)
+pub(crate) fn time_runner(wheel: &mut Wheel, t: Tid, due: &Option<Tick>)
     requires thread { t < 256 }
     requires numbers { length wheel.old.dues ≡ 1024 }
     requires started { due_of (256 + t) wheel.old.dues ≡ None }
     requires runs { due_of (512 + t) wheel.old.dues ≡ None }
-    ensures { wheel.new.dues ≡ waiting_until t due wheel.old.dues }
+    ensures { wheel.new.dues ≡ waiting_until t due.now wheel.old.dues }
 {
-    if let Some(at) = due {
+    if let Some(at) = *due {
         wheel.arm(Item::Timeout(t).number(), at);
     }
 }

@@ -1,7 +1,10 @@
 -- The plain data of the code as the machine's.
+use Rattle.std.specs.Prelude.{Option, ℕ}
 use Rattle.kernel_threads.specs.declared.status.Joiner.{Joiner}
 use Rattle.kernel_threads.specs.declared.status.Joiner.TheVariants as joiner
 use Rattle.kernel_threads.specs.declared.status.Message.{Message}
+use Rattle.kernel_threads.specs.declared.status.Phase.{Phase}
+use Rattle.kernel_threads.specs.declared.status.Phase.TheVariants as phase
 use Rattle.kernel_threads.specs.declared.status.Status.{Status}
 use Rattle.kernel_threads.specs.declared.status.Status.TheVariants as status
 use Rattle.kernel_threads.specs.declared.status.Wait.{Wait}
@@ -31,6 +34,13 @@ status_of (status.Dormant at) = machine.dormant at
 status_of status.Runnable = machine.runnable
 status_of (status.Blocked w) = machine.blocked (waiting_of w)
 status_of status.Ended = machine.ended
+
+-- what a thread does, with the tick at which it starts and with its wait
+abbrev pub status_in : Phase → Option ℕ → Waiting → machine.Status
+status_in phase.Dormant at w = machine.dormant at
+status_in phase.Runnable at w = machine.runnable
+status_in phase.Blocked at w = machine.blocked (waiting_of w)
+status_in phase.Ended at w = machine.ended
 
 abbrev pub joiner_of : Joiner → machine.Joiner
 joiner_of joiner.Nobody = machine.nobody

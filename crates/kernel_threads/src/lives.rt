@@ -19,7 +19,7 @@ ghost use Rattle.kernel_threads.specs.Plain.{joiner_of};
 use crate::frame::Frame;
 use crate::frames::{drop_top, put_on_top};
 use crate::ran::Taken;
-use crate::status::{Joiner, Status};
+use crate::status::{Joiner, Phase};
 use crate::thread::Thread;
 use parts_steps::Steps;
 use rules_machine::{BodyOf, FrameKind};
@@ -45,7 +45,7 @@ impl Thread {
     pub fn end(&mut self)
         ensures { self.new ≡ without_life self.old }
     {
-        self.status = Status::Ended;
+        self.phase = Phase::Ended;
         self.frames.clear();
         self.server = None;
     }

@@ -5,7 +5,7 @@ ghost use Rattle.rules_machine.specs.Threads.{top_result, top_value};
 ghost use Rattle.kernel_threads.specs.Plain.{status_of};
 
 use crate::frame::Frame;
-use crate::status::Status;
+use crate::status::{Phase, Status};
 use crate::thread::Thread;
 use parts_server::Server;
 use words_numbers::{ObjId, Res};
@@ -15,7 +15,12 @@ impl Thread {
     pub fn status(&self) -> Status
         ensures { status_of result ≡ self.now.status }
     {
-        self.status
+        match self.phase {
+            Phase::Dormant => Status::Dormant(self.start),
+            Phase::Runnable => Status::Runnable,
+            Phase::Blocked => Status::Blocked(self.waiting),
+            Phase::Ended => Status::Ended,
+        }
     }
 
     pub fn policy(&self) -> Policy

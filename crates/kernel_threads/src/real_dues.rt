@@ -1,10 +1,9 @@
 //! Waits for a time on CLOCK_REALTIME.
 ghost use Rattle.std.specs.Prelude.{◌≡◌, ℕ};
 ghost use Rattle.rules_machine.specs.Clock.{is_on_real, thread_moved, waits_on_real};
-ghost use Rattle.kernel_threads.specs.RealDues.{real_due, real_due_in};
-ghost use Rattle.kernel_threads.specs.Plain.{waiting_of};
+ghost use Rattle.kernel_threads.specs.RealDues.{real_due_if, real_due_in};
 
-use crate::status::{Status, Waiting};
+use crate::status::Phase;
 use crate::thread::Thread;
 use words_numbers::Tick;
 use words_script::{Call, Moment};
@@ -34,22 +33,15 @@ fn waits_on_real(call: &Call) -> bool
     }
 }
 
-impl Waiting {
-    /// When it ends by itself, where that is a time on CLOCK_REALTIME. Where it does not end by itself, its call is not looked at.
-    #[inline(always)]
-    pub fn real_due(&self) -> Option<Tick>
-        ensures { result ≡ real_due (waiting_of self.now) }
-    {
-        match self.due {
-            None => None,
-            Some(due) => {
-                if waits_on_real(&self.call) {
-                    Some(due)
-                } else {
-                    None
-                }
-            }
-        }
+/// When a wait in that call ends by itself, where that is a time on CLOCK_REALTIME. Where it does not end by itself, the call is not
+/// looked at.
+#[inline(always)]
+pub fn real_due(due: &Option<Tick>, call: &Call) -> Option<Tick>
+    ensures { result ≡ real_due_if due.now (waits_on_real call.now) }
+{
+    match due {
+        None => None,
+        Some(at) => { if waits_on_real(call) { Some(*at) } else { None } }
     }
 }
 
@@ -58,8 +50,8 @@ impl Thread {
     pub fn real_due(&self) -> Option<Tick>
         ensures { result ≡ real_due_in self.now.status }
     {
-        match &self.status {
-            Status::Blocked(w) => w.real_due(),
+        match self.phase {
+            Phase::Blocked => real_due(&self.waiting.due, &self.waiting.call),
             _ => None,
         }
     }
@@ -68,13 +60,8 @@ impl Thread {
     pub fn move_real_due(&mut self, due: Tick)
         ensures { self.new ≡ thread_moved (λ (at : ℕ). due) self.old }
     {
-        if let Status::Blocked(w) = self.status {
-            if w.due.is_some() && waits_on_real(&w.call) {
-                self.status = Status::Blocked(Waiting {
-                    due: Some(due),
-                    ..w
-                });
-            }
+        if self.real_due().is_some() {
+            self.waiting.due = Some(due);
         }
     }
 }

@@ -15,7 +15,7 @@ ghost use Rattle.kernel_threads.specs.Signals.{runs_handlers, signals_awaited, s
 
 use crate::frame::Frame;
 use crate::frames::put_on_top;
-use crate::status::{Status, Wait};
+use crate::status::{Phase, Wait};
 use crate::thread::Thread;
 use rules_machine::{BodyOf, FrameKind};
 use script_code::Code;
@@ -120,8 +120,8 @@ impl Thread {
     pub fn runs_handlers(&self) -> bool
         ensures { result ≡ runs_handlers self.now.status }
     {
-        match &self.status {
-            Status::Blocked(w) => !w.wait.defers_handlers(),
+        match self.phase {
+            Phase::Blocked => !self.waiting.wait.defers_handlers(),
             _ => true,
         }
     }
@@ -130,8 +130,8 @@ impl Thread {
     pub fn awaited_signals(&self) -> SigSet
         ensures { result ≡ signals_awaited (waiting_in self.now.status) }
     {
-        match &self.status {
-            Status::Blocked(w) => w.wait.signals(),
+        match self.phase {
+            Phase::Blocked => self.waiting.wait.signals(),
             _ => SigSet::new(0),
         }
     }
@@ -141,8 +141,8 @@ impl Thread {
     pub fn interrupted(&self, now: Tick) -> Option<u64>
         ensures { result ≡ option_map (λ (w : machine.Waiting). ticks_left w.call w.due now) (waiting_in self.now.status) }
     {
-        match &self.status {
-            Status::Blocked(w) => Some(ticks_left(&w.call, &w.due, now)),
+        match self.phase {
+            Phase::Blocked => Some(ticks_left(&self.waiting.call, &self.waiting.due, now)),
             _ => None,
         }
     }

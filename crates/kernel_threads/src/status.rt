@@ -73,6 +73,15 @@ pub enum Status {
     Ended,
 }
 
+/// What a thread does. When it starts, and its wait, stand beside it.
+#[derive(Clone, Copy)]
+pub enum Phase {
+    Dormant,
+    Runnable,
+    Blocked,
+    Ended,
+}
+
 /// Who joins a thread.
 #[derive(Clone, Copy)]
 pub enum Joiner {

@@ -14,16 +14,19 @@ ghost use Rattle.rules_machine.specs.State as machine;
 ghost use Rattle.rules_machine.specs.Units.{in_unit};
 ghost use Rattle.rules_flat_code.specs.FlatBodies.{flat_bodies};
 ghost use Rattle.rules_flat_code.specs.Placed.{ArePlaced};
-ghost use Rattle.kernel_threads.specs.Plain.{status_of, wait_of, waiting_of};
+ghost use Rattle.kernel_threads.specs.Plain.{status_of, wait_of};
+ghost use Rattle.kernel_threads.specs.declared.status.Status.TheVariants as Status;
+ghost use Rattle.rules_machine.specs.State.{for_mutex_again};
 ghost use Rattle.kernel_threads.specs.Sleeping.{waits_for_time};
 ghost use Rattle.words_trace.specs.declared.report.Report.{Report};
 ghost use Rattle.rules_machine.specs.Machine.{budget_of, report_of};
 
 use crate::frame::Frame;
 use crate::server::{budget_of, new_server};
-use crate::status::{Joiner, Status, Wait, Waiting};
+use crate::status::{Joiner, Phase, Wait, Waiting};
 use arrayvec::ArrayVec;
 use parts_server::Server;
+use rules_machine::CondEnd;
 use script_code::{Code, Unit};
 use std::marker::Model;
 use words_numbers::{ObjId, Res, SigSet, Tick};
@@ -40,9 +43,13 @@ pub struct Thread {
     pub(crate) is_requested: bool,
     pub(crate) is_enabled: bool,
     pub(crate) is_ending: bool,
+    pub(crate) phase: Phase,
     // the top frame first
     pub(crate) frames: ArrayVec<Frame, 3>,
-    pub(crate) status: Status,
+    // its wait; read only where it is blocked
+    pub(crate) waiting: Waiting,
+    // when it starts by itself; read only where it is dormant
+    pub(crate) start: Option<u64>,
     pub(crate) server: Option<Server>,
     // the handler that was pushed last first
     pub(crate) cleanups: ArrayVec<ObjId, 8>,
@@ -61,13 +68,23 @@ impl Model for Thread {
     ghost use Rattle.rules_machine.specs.Units.{in_unit};
     ghost use Rattle.rules_flat_code.specs.FlatBodies.{flat_bodies};
     ghost use Rattle.rules_flat_code.specs.Placed.{ArePlaced};
-    ghost use Rattle.kernel_threads.specs.Plain.{joiner_of, status_of};
+    ghost use Rattle.kernel_threads.specs.Plain.{joiner_of, status_in};
 
-    ghost view = { λ t. record { status = status_of t.status; policy = t.policy; server = t.server; slice = t.slice; ticks = t.ticks; mask = t.mask; frames = t.frames.items; is_requested = t.is_requested; is_enabled = t.is_enabled; is_ending = t.is_ending; cleanups = t.cleanups.items; exit_value = t.exit_value; joiner = joiner_of t.joiner } };
+    ghost view = { λ t. record { status = status_in t.phase t.start t.waiting; policy = t.policy; server = t.server; slice = t.slice; ticks = t.ticks; mask = t.mask; frames = t.frames.items; is_requested = t.is_requested; is_enabled = t.is_enabled; is_ending = t.is_ending; cleanups = t.cleanups.items; exit_value = t.exit_value; joiner = joiner_of t.joiner } };
 
     ghost use Rattle.kernel_threads.specs.Held.{IsHeld};
 
     ghost invariant = { λ t. IsHeld t.policy t.server };
+}
+
+// What stands in place of a wait before the first.
+fn no_wait() -> Waiting {
+    Waiting {
+        wait: Wait::Time,
+        serial: 0,
+        due: None,
+        call: Call::Yield,
+    }
 }
 
 impl Thread {
@@ -76,7 +93,9 @@ impl Thread {
         ensures { result ≡ record no_thread { status = status_of (Status.Dormant start); policy = policy } }
     {
         Thread {
-            status: Status::Dormant(start),
+            phase: Phase::Dormant,
+            waiting: no_wait(),
+            start,
             policy,
             server: None,
             slice: 0,
@@ -95,8 +114,8 @@ impl Thread {
     pub fn is_runnable(&self) -> bool
         ensures { result ≡ is_runnable self.now.status }
     {
-        match self.status {
-            Status::Runnable => true,
+        match self.phase {
+            Phase::Runnable => true,
             _ => false,
         }
     }
@@ -104,8 +123,8 @@ impl Thread {
     pub fn is_dormant(&self) -> bool
         ensures { result ≡ is_dormant self.now.status }
     {
-        match self.status {
-            Status::Dormant(_) => true,
+        match self.phase {
+            Phase::Dormant => true,
             _ => false,
         }
     }
@@ -114,8 +133,8 @@ impl Thread {
     pub fn start_due(&self) -> Option<u64>
         ensures { result ≡ start_in self.now.status }
     {
-        match self.status {
-            Status::Dormant(at) => at,
+        match self.phase {
+            Phase::Dormant => self.start,
             _ => None,
         }
     }
@@ -133,17 +152,32 @@ impl Thread {
     pub fn wake(&mut self, res: Res, value: u64)
         ensures { self.new ≡ woken res value self.old }
     {
-        self.status = Status::Runnable;
+        self.phase = Phase::Runnable;
         self.clear_slice();
         self.answer(res, value);
     }
 
     /// It waits.
     #[inline(always)]
-    pub fn block(&mut self, waiting: Waiting)
-        ensures { self.new ≡ put_to_wait (waiting_of waiting) self.old }
+    pub fn block(&mut self, wait: &Wait, serial: u64, due: &Option<Tick>, call: &Call)
+        ensures { self.new ≡ put_to_wait (record { wait = wait_of wait.now; serial = serial; due = due.now; call = call.now }) self.old }
     {
-        self.status = Status::Blocked(waiting);
+        self.phase = Phase::Blocked;
+        self.waiting.wait = *wait;
+        self.waiting.serial = serial;
+        self.waiting.due = *due;
+        self.waiting.call = *call;
+    }
+
+    /// It waits on in its call, without a limit, for the mutex of its condition wait, which has ended.
+    #[inline(always)]
+    pub fn block_again(&mut self, k: ObjId, how: CondEnd, serial: u64)
+        requires { is_blocked self.old.status ≡ true }
+        ensures { self.new ≡ put_to_wait (record { wait = for_mutex_again k how; serial = serial; due = None; call = call_in (waiting_in self.old.status) }) self.old }
+    {
+        self.waiting.wait = Wait::MutexAgain(k, how);
+        self.waiting.serial = serial;
+        self.waiting.due = None;
     }
 
     /// It starts in that frame.
@@ -151,7 +185,7 @@ impl Thread {
         requires { now ≤ 10 ^ 18 }
         ensures { self.new ≡ record self.old { status = status_of Status.Runnable; slice = 0; mask = mask; frames = main ∷ []; server = server_of self.old.policy now } }
     {
-        self.status = Status::Runnable;
+        self.phase = Phase::Runnable;
         self.slice = 0;
         self.mask = mask;
         self.frames.clear();
@@ -163,8 +197,8 @@ impl Thread {
     pub fn waiting_call(&self) -> Call
         ensures { result ≡ call_in (waiting_in self.now.status) }
     {
-        match self.status {
-            Status::Blocked(w) => w.call,
+        match self.phase {
+            Phase::Blocked => self.waiting.call,
             _ => Call::Yield,
         }
     }
@@ -173,8 +207,8 @@ impl Thread {
     pub fn wait(&self) -> Option<Wait>
         ensures { option_map wait_of result ≡ option_map (λ (w : machine.Waiting). w.wait) (waiting_in self.now.status) }
     {
-        match self.status {
-            Status::Blocked(w) => Some(w.wait),
+        match self.phase {
+            Phase::Blocked => Some(self.waiting.wait),
             _ => None,
         }
     }
@@ -183,8 +217,8 @@ impl Thread {
     pub fn wait_due(&self) -> Option<Tick>
         ensures { result ≡ option_and_then (λ (w : machine.Waiting). w.due) (waiting_in self.now.status) }
     {
-        match self.status {
-            Status::Blocked(w) => w.due,
+        match self.phase {
+            Phase::Blocked => self.waiting.due,
             _ => None,
         }
     }
@@ -193,11 +227,8 @@ impl Thread {
     pub fn waits_for_time(&self) -> bool
         ensures { result ≡ waits_for_time (waiting_in self.now.status) }
     {
-        match &self.status {
-            Status::Blocked(w) => match w.wait {
-                Wait::Time => true,
-                _ => false,
-            },
+        match (self.phase, self.waiting.wait) {
+            (Phase::Blocked, Wait::Time) => true,
             _ => false,
         }
     }
@@ -205,9 +236,9 @@ impl Thread {
     pub fn is_live(&self) -> bool
         ensures { result ≡ is_live self.now.status }
     {
-        match self.status {
-            Status::Runnable => true,
-            Status::Blocked(_) => true,
+        match self.phase {
+            Phase::Runnable => true,
+            Phase::Blocked => true,
             _ => false,
         }
     }
@@ -268,8 +299,8 @@ impl Thread {
     pub(crate) fn is_blocked(&self) -> bool
         ensures { result ≡ is_blocked self.now.status }
     {
-        match self.status {
-            Status::Blocked(_) => true,
+        match self.phase {
+            Phase::Blocked => true,
             _ => false,
         }
     }

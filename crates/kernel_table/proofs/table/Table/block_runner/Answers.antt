@@ -1,7 +1,8 @@
 use Rattle.std.proofs.Common.{ap, slice_set, ◌∙◌, arith, rules}
 use Rattle.std.proofs.lemmas.List.{length-set}
 use Rattle.rules_machine.specs.Waking.{put_to_wait}
-use Rattle.kernel_threads.specs.Plain.{waiting_of}
+use Rattle.rules_machine.specs.State.{Waiting}
+use Rattle.kernel_threads.specs.Plain.{wait_of}
 use Rattle.kernel_table.specs.Times.{refill_of, start_of, timeout_of}
 use Rattle.kernel_table.proofs.Moved.{begun_tied}
 use Rattle.kernel_table.proofs.ToldMoves.{told}
@@ -35,15 +36,15 @@ time_runner-requires-clause-runs c =
 pub invariant_of-self : goal.invariant_of-self
 invariant_of-self c = record {
   tied = (let s = c.self.inside in
-      let w = waiting_of c.args.waiting in
+      let w : Waiting = record { wait = wait_of c.args.wait.now; serial = c.args.serial; due = c.args.due.now; call = c.args.call.now } in
       let known = rw (← c.self.view_is) at c.requires.known in
       begun_tied s.threads s.chain s.chain c.begin_waiting-moved.new.chain s.waits s.waits c.begin_waiting-moved.new.waits c.args.t w c.block.new.self known
       (c.block.ensures ∙ ap (put_to_wait w) c.get_mut.ensures.value) c.stands_nowhere.ensures.chain c.stands_nowhere.ensures.waits c.begin_waiting-moved.ensures.chain c.begin_waiting-moved.ensures.waits c.self.invariant.tied);
   armed = (let s = c.self.inside in
-      let is = c.block.ensures ∙ ap (put_to_wait (waiting_of c.args.waiting)) c.get_mut.ensures.value in
-      armed_waiting s.threads s.timers s.wheel.dues _ c.args.t c.block.new.self c.args.waiting.due c.self.invariant.tied.few (rw (← c.self.view_is) at c.requires.known) (ap refill_of is) (ap start_of is) (ap timeout_of is) c.time_runner.ensures c.self.invariant.armed);
+      let is = c.block.ensures ∙ ap (put_to_wait (record { wait = wait_of c.args.wait.now; serial = c.args.serial; due = c.args.due.now; call = c.args.call.now })) c.get_mut.ensures.value in
+      armed_waiting s.threads s.timers s.wheel.dues _ c.args.t c.block.new.self c.args.due.now c.self.invariant.tied.few (rw (← c.self.view_is) at c.requires.known) (ap refill_of is) (ap start_of is) (ap timeout_of is) c.time_runner.ensures c.self.invariant.armed);
   kept = (let s = c.self.inside in
-      let is = c.block.ensures ∙ ap (put_to_wait (waiting_of c.args.waiting)) c.get_mut.ensures.value in
+      let is = c.block.ensures ∙ ap (put_to_wait (record { wait = wait_of c.args.wait.now; serial = c.args.serial; due = c.args.due.now; call = c.args.call.now })) c.get_mut.ensures.value in
       kept_after s.threads s.timers s.real_waits _ s.real_expiries c.args.t c.block.new.self _ (rw (← c.self.view_is) at c.requires.known) (ap waits_for_reading is) c.keep_runner.ensures c.self.invariant.kept);
 }
 
