@@ -390,9 +390,10 @@ impl SeenFacts {
         ensures few { result ≤ most }
         ensures quiet { (i : ℕ) → i < result → may_tell (number + i) self.now.busy ≡ false }
     {
-        if self.quiet_in_word(number, most) == most {
-            return most;
+        let quiet = self.quiet_in_word(number, most);
+        if quiet == most || (number + quiet) % 64 != 0 {
+            return quiet;
         }
-        self.quiet_in_words(number, most)
+        quiet + self.quiet_in_words(number + quiet, most - quiet)
     }
 }
