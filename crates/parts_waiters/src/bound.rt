@@ -69,7 +69,6 @@ fn has_released(place: &Option<Place>, k: ObjId) -> bool
 }
 
 // Whether a thread at that place waits with the mutex of all on its list, where these wait with one: the first of them tells.
-#[inline(never)]
 fn is_like_first(links: &Links, places: &[Option<Place>], list: u32, place: &Place) -> bool
     requires held { AreHeld places.now links.now }
     requires alike { AreAlike places.now }
