@@ -39,13 +39,6 @@ still_nothing d at f none was decls h = record { told = was ∙ sym (none decls)
 pub still_quiet : (d : Desk) (at : ℕ) (f : Fact) → TellsNothing f → may_tell at d.seen.busy ≡ false → IsToldAt at d f
 still_quiet d at f none off decls h = record { told = h.quiet at off ∙ sym (none decls); short = nothing_short decls f (none decls) }
 
--- the same of so many facts behind a stretch
-pub all_still_quiet : (d : Desk) (same quiet empty : ℕ) (f : ℕ → Fact) → quiet ≤ empty → ((k : ℕ) → k < empty → TellsNothing (f k))
-    → ((k : ℕ) → k < quiet → may_tell (d.at + same + k) d.seen.busy ≡ false) → (k : ℕ) → k < quiet → IsToldAt (d.at + (same + k)) d (f k)
-all_still_quiet d same quiet empty f few none off k low =
-    let there : d.at + same + k ≡ d.at + (same + k) = omega arith in
-    still_quiet d (d.at + (same + k)) (f k) (none k (omega (arith, low, few))) (subst (λ (n : ℕ). may_tell n d.seen.busy ≡ false) there (off k low))
-
 -- what was seen is told
 pub still_seen : (d : Desk) (at : ℕ) (key : FactSeen) (f : Fact) → slice_index_or d.seen.facts at seen.Unseen ≡ key → is_some (fact_seen key) ≡ true → IsOf f (fact_seen key) → IsToldAt at d f
 still_seen d at key f same some is decls h = told_here decls (record d { at = at }) key f same some is h

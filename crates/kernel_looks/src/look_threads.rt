@@ -7,7 +7,6 @@ ghost use Rattle.kernel_lines.specs.declared.rows.ThreadRow.{ThreadRow};
 ghost use Rattle.kernel_facts.specs.Kept.{thread_row_kept, threads_kept};
 ghost use Rattle.kernel_seen.specs.FactSeen.{IsMemoryOf};
 ghost use Rattle.kernel_looks.specs.Ahead.{IsStretch, IsToldAt, past, row_from};
-ghost use Rattle.kernel_looks.specs.Nothing.{TellsNothing};
 ghost use Rattle.kernel_looks.specs.Nothings.{is_inner, inner_rows_kept};
 ghost use Rattle.kernel_looks.specs.Desk.{WentOn};
 
@@ -62,7 +61,7 @@ fn is_told_ahead(parts: &Parts, row: ThreadRow, t: Tid, ahead: usize, desk: &Des
     is_of_thread(parts, row, t, desk.seen_ahead(ahead))
 }
 
-// The same, thread by thread: of how many from a number on, of so many, a row tells what it told last. Theirs are the facts behind the stretch.
+// Of how many threads from a number on, of so many, a row tells the same as last. Theirs are the facts behind the stretch.
 #[inline(always)]
 fn told_ahead(
     parts: &Parts,
@@ -87,73 +86,6 @@ fn told_ahead(
         }
     }
     most
-}
-
-// How many threads from a number on, of so many, have nothing planned.
-#[inline(always)]
-fn unplanned_from(parts: &Parts, from: u16, most: u16) -> u16
-    requires within { from + most ≤ length parts.now.names }
-    requires few { from + most ≤ 256 }
-    ensures few { result ≤ most }
-    ensures nothing { (k : ℕ) → k < result → TellsNothing (thread_fact_of ThreadRow.Pending parts.now.machine (from + k)) }
-{
-    for k in 0..most {
-        if !thread_tells_nothing(parts, ThreadRow::Pending, parts.tid(from + k)) {
-            return k;
-        }
-    }
-    most
-}
-
-// Of how many threads from a number on, of so many, the servers have planned what was told last: those that have nothing planned, and the
-// next one. Theirs are the facts behind the stretch.
-#[inline(always)]
-fn plans_ahead(parts: &Parts, from: u16, most: u16, stretch: &Stretch, desk: &Desk) -> u16
-    requires within { from + most ≤ length parts.now.names }
-    requires few { from + most ≤ 256 }
-    requires stretch { IsStretch stretch.now desk.now }
-    ensures few { result ≤ most }
-    ensures places { stretch.now.same + result ≤ stretch.now.places }
-    ensures told { (k : ℕ) → k < result → IsToldAt (desk.now.at + (stretch.now.same + k)) desk.now (thread_fact_of ThreadRow.Pending parts.now.machine (from + k)) }
-{
-    let empty = unplanned_from(parts, from, most);
-    let quiet = stretch.quiet_behind(desk, usize::from(empty)) as u16;
-    if quiet < empty || quiet == most || stretch.left() == usize::from(quiet) {
-        return quiet;
-    }
-    let ahead = stretch.same + usize::from(quiet);
-    let t = parts.tid(from + quiet);
-    if is_told_ahead(parts, ThreadRow::Pending, t, ahead, desk) {
-        return quiet + 1;
-    }
-    quiet
-}
-
-// Of how many threads from a number on, of so many, a row tells the same as last. Theirs are the facts behind the stretch.
-#[inline(always)]
-fn row_ahead(
-    parts: &Parts,
-    row: ThreadRow,
-    from: u16,
-    most: u16,
-    stretch: &Stretch,
-    desk: &Desk,
-) -> u16
-    requires within { from + most ≤ length parts.now.names }
-    requires few { from + most ≤ 256 }
-    requires stretch { IsStretch stretch.now desk.now }
-    ensures few { result ≤ most }
-    ensures places { stretch.now.same + result ≤ stretch.now.places }
-    ensures told { (k : ℕ) → k < result → IsToldAt (desk.now.at + (stretch.now.same + k)) desk.now (thread_fact_of row parts.now.machine (from + k)) }
-{
-    match row {
-        ThreadRow::Status => told_ahead(parts, row, from, most, stretch, desk),
-        ThreadRow::Frames => told_ahead(parts, row, from, most, stretch, desk),
-        ThreadRow::Mask => told_ahead(parts, row, from, most, stretch, desk),
-        ThreadRow::Cancelability => told_ahead(parts, row, from, most, stretch, desk),
-        ThreadRow::Cleanups => told_ahead(parts, row, from, most, stretch, desk),
-        ThreadRow::Pending => plans_ahead(parts, from, most, stretch, desk),
-    }
 }
 
 // Goes over threads from a number on of which a row tells the same as last, and looks at what it tells of the one behind them. It answers
@@ -181,7 +113,7 @@ fn look_at_next_facts(
     ensures short { (k : ℕ) → k < result → HasShortText decls.now (thread_fact_of row parts.now.machine (from + k)) }
     ensures memory { IsMemoryOf decls.now desk.new.told.texts desk.new.seen }
 {
-    let same = row_ahead(parts, row, from, most, stretch, desk);
+    let same = told_ahead(parts, row, from, most, stretch, desk);
     stretch.skip(usize::from(same));
     if same == most {
         return most;

@@ -14,7 +14,7 @@ returns-then-same-most-clause-kept c =
     let n = c.from.result in
     let is = c.from.ensures in
     let all : n ≡ c.args.most = is ∙ c.if-same-most.true in
-    let found = c.row_ahead-same.ensures in
+    let found = c.told_ahead-same.ensures in
     let room = found.places in
     subst (λ (k : ℕ). WentOn c.args.next.now c.args.next.now (past c.args.stretch.now c.args.desk.now) (past c.skip.new.self c.args.desk.now) (row_from decls c.args.row m c.args.from k)) all
     (skip_facts c.args.next.now c.args.desk.now c.args.stretch.now c.skip.new.self (λ (k : ℕ). thread_fact_of c.args.row m (c.args.from + k)) n c.requires.stretch (omega (arith, room, is)) c.skip.ensures
@@ -23,7 +23,7 @@ returns-then-same-most-clause-kept c =
 pub returns-then-same-most-clause-short : goal.returns-then-same-most-clause-short
 returns-then-same-most-clause-short c k low =
     let all = c.if-same-most.true in
-    let here = c.row_ahead-same.ensures.told k (omega (arith, low, all)) c.args.decls.now c.requires.memory in
+    let here = c.told_ahead-same.ensures.told k (omega (arith, low, all)) c.args.decls.now c.requires.memory in
     here.short
 
 pub look_at_thread_fact-requires-clause-memory : goal.look_at_thread_fact-requires-clause-memory
@@ -35,7 +35,7 @@ returns-clause-kept c =
     let m = c.args.parts.now.machine in
     let n = c.from.result in
     let is = c.from.ensures in
-    let found = c.row_ahead-same.ensures in
+    let found = c.told_ahead-same.ensures in
     let room = found.places in
     let skipped =
     subst (λ (k : ℕ). WentOn c.args.next.now c.args.next.now (past c.args.stretch.now c.args.desk.now) (past c.skip.new.self c.args.desk.now) (row_from decls c.args.row m c.args.from k)) is
@@ -48,5 +48,5 @@ returns-clause-kept c =
 pub returns-clause-short : goal.returns-clause-short
 returns-clause-short c =
     let holds = λ (k : ℕ). HasShortText c.args.decls.now (thread_fact_of c.args.row c.args.parts.now.machine (c.args.from + k)) in
-    below_more holds c.row_ahead-same.result (λ k low. let here = c.row_ahead-same.ensures.told k low c.args.decls.now c.requires.memory in here.short)
+    below_more holds c.told_ahead-same.result (λ k low. let here = c.told_ahead-same.ensures.told k low c.args.decls.now c.requires.memory in here.short)
     (rw c.tid.ensures at c.look_at_thread_fact.ensures.short)
