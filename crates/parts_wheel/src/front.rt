@@ -69,7 +69,7 @@ impl Front {
         requires { IsEarly slots.now.dues self.old.early }
         ensures { IsFront slots.now self.new.least self.new.early self.new.lone }
     {
-        *self = Front::of(slots, slots.least_later(), self.early);
+        *self = Front::of(slots, slots.least_far(self.early), self.early);
     }
 
     /// Once an item that was not armed falls due at that tick, which is no later than that of the slots.

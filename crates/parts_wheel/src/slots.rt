@@ -260,18 +260,19 @@ impl Slots {
     {
         match self.next_near() {
             Some(next) => next,
-            None => self.least_far(),
+            None => self.least_far(0),
         }
     }
 
-    // The same, from the items of the first list.
+    /// The same from the items of the first list, where nothing is due before that tick.
     #[inline(never)]
-    fn least_far(&self) -> Next
+    pub(crate) fn least_far(&self, early: u64) -> Next
+        requires { IsEarly self.now.dues early }
         ensures later { IsLeastLater self.now.base self.now.dues result.tick }
         ensures lone { IsLone self.now.dues result.tick result.lone }
     {
         match self.occupied.lowest() {
-            Some(list) => least_in(&self.links, &self.dues, list),
+            Some(list) => least_in(&self.links, &self.dues, list, early),
             None => Next {
                 tick: u64::MAX,
                 lone: NO_ITEM,

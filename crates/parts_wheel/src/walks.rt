@@ -1,7 +1,7 @@
 //! Walks along the lists of a wheel.
 ghost use Rattle.std.specs.Prelude.{◌≡◌, ◌<◌, ℕ, true, length, IfSome};
 ghost use Rattle.parts_links.specs.Links.{list_at, stands_in, stands_at};
-ghost use Rattle.parts_wheel.specs.Slots.{IsLeastOf, IsLoneOf, IsSooner, IsOnly, IsLeastNode};
+ghost use Rattle.parts_wheel.specs.Slots.{IsEarly, IsLeastOf, IsLoneOf, IsSooner, IsOnly, IsLeastNode};
 ghost use Rattle.parts_wheel.specs.Moves.{IsDue};
 
 use parts_links::Links;
@@ -18,11 +18,12 @@ pub struct Next {
     pub(crate) lone: u32,
 }
 
-/// What is due next of the items in one list.
+/// What is due next of the items in one list, of which none is due before that tick. The walk ends where a second is due then.
 #[inline(always)]
-pub(crate) fn least_in(links: &Links, dues: &[Option<Tick>], list: u32) -> Next
+pub(crate) fn least_in(links: &Links, dues: &[Option<Tick>], list: u32, early: u64) -> Next
     requires list { list < length links.now.lists }
     requires armed { (i : ℕ) → stands_at i list links.now.lists ≡ true → (d : ℕ) × IsDue dues.now i d }
+    requires early { IsEarly dues.now early }
     ensures least { IsLeastOf dues.now (list_at links.now.lists list) result.tick }
     ensures lone { IsLoneOf dues.now (list_at links.now.lists list) result.tick result.lone }
 {
@@ -34,6 +35,9 @@ pub(crate) fn least_in(links: &Links, dues: &[Option<Tick>], list: u32) -> Next
     let mut at = links.front(list);
     while let Some(node) = at {
         next = sooner(next, node, dues[node as usize]);
+        if next.tick == early && next.lone == NO_ITEM {
+            return next;
+        }
         at = links.next(node);
     }
     next

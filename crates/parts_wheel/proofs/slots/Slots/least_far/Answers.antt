@@ -1,6 +1,6 @@
 use Rattle.std.proofs.Common.{ℕ, List, Option, subst, sym}
 use Rattle.parts_links.specs.Links.{list_at}
-use Rattle.parts_wheel.specs.Slots.{IsLeastOf}
+use Rattle.parts_wheel.specs.Slots.{Placed, IsEarly, IsLeastOf}
 use Rattle.parts_wheel.specs.Moves.{IsDue}
 use Rattle.parts_wheel.proofs.Holding.{no_later, least_at_lowest}
 use Rattle.parts_wheel.proofs.slots.Slots.least_far.Goals as goal
@@ -8,6 +8,11 @@ use Rattle.parts_wheel.proofs.slots.Slots.least_far.Goals as goal
 pub least_in-requires-clause-armed : goal.least_in-requires-clause-armed
 least_in-requires-clause-armed c i h =
     let o = c.self.invariant.filed.only_later i c.in-Some.list h in (o.0, subst (λ (ds : List (Option ℕ)). IsDue ds i o.0) (sym c.deref.ensures.value) o.1)
+
+pub least_in-requires-clause-early : goal.least_in-requires-clause-early
+least_in-requires-clause-early c =
+    let early = subst (λ (p : Placed). IsEarly p.dues c.args.early) (sym c.self.view_is) c.requires in
+    subst (λ (ds : List (Option ℕ)). IsEarly ds c.args.early) (sym c.deref.ensures.value) early
 
 pub returns-in-Some-clause-later : goal.returns-in-Some-clause-later
 returns-in-Some-clause-later c =
