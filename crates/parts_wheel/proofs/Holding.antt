@@ -330,3 +330,17 @@ pub first_if_few : (base to : ℕ) (dues : List (Option ℕ)) (lists : List (Lis
     → to ≤ 3 * 10 ^ 18 → IsEarly dues to → IfSome o (λ n. IsLeastNode (list_at lists (to % 2048)) n) → IfSome o (λ i. IsFirstDue to dues i)
 first_if_few base to dues lists passed None filed near next most early none = none
 first_if_few base to dues lists passed (Some n) filed near next most early least = first_of_list base to n dues lists passed filed near (comes_next base to dues next most) early least
+
+-- ---- another item is due next with one that leaves
+
+pub next_stays : (base id d i : ℕ) (dues : List (Option ℕ)) (lists new : List (List ℕ)) (passed : List ℕ) → AreFiled base dues lists passed → due_of id dues ≡ Some d → IsLeastLater base dues d
+    → d / 2048 ≡ base / 2048 → base < d → IsTaken id lists new → stands_at i (d % 2048) new ≡ true → IsLeastLater base (set dues id None) d
+next_stays base id d i dues lists new passed filed due is near after taken stands =
+    let left = disarmed_later base id d dues lists new passed passed filed due after taken in
+    let o = left.only_later i (d % 2048) stands in
+    let t = near_tick base o.0 (d % 2048) (omega arith) o.3 in
+    let same : o.0 ≡ d = omega (arith, t, near) in
+    record {
+      least = λ j e h l. is.least j e (before base id d dues lists new passed passed filed due j e h) l;
+      holds = inr (i, o.1 ∙ ap Some same, after);
+    }

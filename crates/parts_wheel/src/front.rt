@@ -1,5 +1,5 @@
 //! What is due first.
-ghost use Rattle.std.specs.Prelude.{◌≡◌, ◌≤◌, ◌<◌, ◌-◌, ◌*◌, ◌^◌, ℕ, None, Some, length, slice_set};
+ghost use Rattle.std.specs.Prelude.{◌≡◌, ◌≤◌, ◌<◌, ◌-◌, ◌*◌, ◌/◌, ◌^◌, ℕ, None, Some, length, slice_set};
 ghost use Rattle.parts_wheel.specs.Dues.{due_of};
 ghost use Rattle.parts_wheel.specs.Slots.{Placed, IsLeastLater, IsLone, IsEarly, IsFront};
 
@@ -61,6 +61,21 @@ impl Front {
             Some(next) => *self = Front::of(slots, next, self.early),
             None => self.look_in_full(slots),
         }
+    }
+
+    /// The same where what is due next, in the lowest level, is as it was.
+    #[inline(always)]
+    pub(crate) fn look_near(&mut self, slots: &Slots)
+        requires least { IsLeastLater slots.now.base slots.now.dues self.old.least }
+        requires near { self.old.least / 2048 ≡ slots.now.base / 2048 }
+        requires early { IsEarly slots.now.dues self.old.early }
+        ensures { IsFront slots.now self.new.least self.new.early self.new.lone }
+    {
+        self.lone = if self.early == self.least {
+            slots.lone_at(self.least)
+        } else {
+            NO_ITEM
+        };
     }
 
     // The same, whatever is due next.

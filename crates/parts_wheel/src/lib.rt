@@ -181,9 +181,13 @@ impl Wheel {
     {
         let tick = before.get();
         if tick == self.front.least && tick < due.get() && self.slots.is_near(tick) {
-            self.slots.disarm_near(id.number, tick);
+            let left = self.slots.disarm_near(id.number, tick);
             self.slots.arm_later(id.number, due);
-            self.front.look(&self.slots);
+            if left {
+                self.front.look_near(&self.slots);
+            } else {
+                self.front.look(&self.slots);
+            }
         } else {
             self.arm_anew_in_full(id, before, due);
         }

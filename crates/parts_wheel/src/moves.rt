@@ -31,19 +31,24 @@ pub(crate) fn take(links: &mut Links, occupied: &mut Bits, node: u32) -> Option<
     None
 }
 
-/// Takes the node out of the list in which it stands.
+/// Takes the node out of the list in which it stands. The answer is whether another node is left in it.
 #[inline(always)]
-pub(crate) fn take_from(links: &mut Links, occupied: &mut Bits, list: u32, node: u32)
+pub(crate) fn take_from(links: &mut Links, occupied: &mut Bits, list: u32, node: u32) -> bool
     requires sized { IsSized links.old occupied.old × (list < 3840) }
     requires marked { AreMarked links.old.lists occupied.old }
     requires node { (node < 1024) × (stands_at node list links.old.lists ≡ true) }
     ensures sized { IsSized links.new occupied.new }
     ensures marked { AreMarked links.new.lists occupied.new }
     ensures taken { IsTaken node links.old.lists links.new.lists }
+    ensures left { result ≡ true → (i : ℕ) × (stands_at i list links.new.lists ≡ true) }
 {
     links.unlink(node);
-    if links.front(list).is_none() {
-        occupied.set(list, false);
+    match links.front(list) {
+        Some(_) => true,
+        None => {
+            occupied.set(list, false);
+            false
+        }
     }
 }
 

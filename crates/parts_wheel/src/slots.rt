@@ -112,7 +112,8 @@ impl Slots {
     pub(crate) fn arm_later(&mut self, id: u32, due: Tick)
         requires item { (id < length self.old.dues) × (due_of id self.old.dues ≡ None) }
         requires later { self.old.base < due }
-        ensures { self.new ≡ record self.old { dues = slice_set self.old.dues id (Some due) } }
+        ensures armed { self.new ≡ record self.old { dues = slice_set self.old.dues id (Some due) } }
+        ensures least { (tick : ℕ) → tick ≤ due → IsLeastLater self.old.base self.old.dues tick → IsLeastLater self.new.base self.new.dues tick }
     {
         self.dues[id as usize] = Some(due);
         let list = list_for(self.base, due.get());
@@ -133,17 +134,18 @@ impl Slots {
         }
     }
 
-    /// The same for an item that is due next, and stands in the lowest level.
+    /// The same for an item that is due next, and stands in the lowest level. The answer is whether another is due then.
     #[inline(always)]
-    pub(crate) fn disarm_near(&mut self, id: u32, due: u64)
+    pub(crate) fn disarm_near(&mut self, id: u32, due: u64) -> bool
         requires item { (id < length self.old.dues) × (due_of id self.old.dues ≡ Some due) }
         requires next { IsLeastLater self.old.base self.old.dues due }
         requires near { due / 2048 ≡ self.old.base / 2048 }
         ensures dues { self.new ≡ record self.old { dues = slice_set self.old.dues id None } }
         ensures later { self.old.base < due }
+        ensures left { result ≡ true → IsLeastLater self.new.base self.new.dues due }
     {
         self.dues[id as usize] = None;
-        take_from(&mut self.links, &mut self.occupied, (due % 2048) as u32, id);
+        take_from(&mut self.links, &mut self.occupied, (due % 2048) as u32, id)
     }
 
     /// The item, which is due next, is not armed afterwards, and the wheel goes on to its tick.
@@ -219,6 +221,15 @@ impl Slots {
         } else {
             None
         }
+    }
+
+    /// The number of the item that alone is due then, at a tick of the lowest level, or no item's.
+    #[inline(always)]
+    pub(crate) fn lone_at(&self, due: u64) -> u32
+        requires { due / 2048 ≡ self.now.base / 2048 }
+        ensures { IsLone self.now.dues due result }
+    {
+        only_in(&self.links, (due % 2048) as u32)
     }
 
     /// Whether no armed item has passed.

@@ -1,11 +1,12 @@
 use Rattle.std.proofs.Common.{◌≡◌, ◌<◌, ◌≤◌, ◌*◌, ◌^◌, None, Some, length, refl, subst, sym, arith, ◌∙◌, ap, true}
 use Rattle.std.proofs.Math.ListN.{length-set}
 use Rattle.parts_wheel.specs.Bits.{ChangesBit}
-use Rattle.parts_wheel.specs.Slots.{Placed, list_for}
+use Rattle.parts_wheel.specs.Slots.{Placed, IsLeastLater, list_for}
 use Rattle.parts_wheel.specs.Dues.{due_of}
 use Rattle.parts_wheel.specs.Moves.{IsFiled, IsNoted, with_last}
 use Rattle.parts_wheel.proofs.Holding.{armed, off_lists, still_small}
 use Rattle.parts_wheel.proofs.Filing.{list_small}
+use Rattle.parts_wheel.proofs.Fronts.{same_armed}
 use Rattle.parts_wheel.proofs.Stands.{filed_mark}
 use Rattle.parts_wheel.proofs.slots.Slots.arm_later.Goals as goal
 
@@ -46,3 +47,10 @@ invariant_of-self c =
       filed = armed s.base id d s.dues.items s.links.lists c.put.new.links.lists s.passed s.passed i.filed asked.1 asked.0 inside filed;
       small = still_small s.dues.items id (Some d) i.small (λ e h. let q : d ≡ e = cc in omega (arith, q, small)) asked.0;
     }
+
+pub returns-clause-least : goal.returns-clause-least
+returns-clause-least c tick le is =
+    let s = c.self.inside in let id = c.args.id in let d = c.args.due in
+    let asked = subst (λ (p : Placed). (id < length p.dues) × (due_of id p.dues ≡ None)) (sym c.self.view_is) c.requires.item in
+    let before = subst (λ (p : Placed). IsLeastLater p.base p.dues tick) (sym c.self.view_is) is in
+    same_armed s.base id d tick s.dues.items before (λ lt. le) asked.1 asked.0
