@@ -17,8 +17,9 @@ from lab.runs import NoRun, Sources, answer, run, trace_of  # noqa: E402
 from .served import TOP, Served, alive  # noqa: E402
 
 SCRIPT = b"thread a fifo 5 at 0\nrun 3\nend\n"
-# Takes the reference a minute: it ticks, and each yield is a line.
-LONG = b"thread a fifo 5 at 0\nforever\nyield\nend\nend\n"
+# A run to that horizon takes any program many minutes, and tells nothing on its way.
+LONG = b"thread a fifo 5 at 0\nforever\nrun 1\nend\nend\n"
+FAR = 10 ** 12
 
 
 class Server(unittest.TestCase):
@@ -84,7 +85,7 @@ class Server(unittest.TestCase):
     def test_a_run_that_takes_too_long(self) -> None:
         self.lab.run(SCRIPT)
         began = time.monotonic()
-        status, text, _ = self.lab.run(LONG, 9_000_000)
+        status, text, _ = self.lab.run(LONG, FAR)
         self.assertEqual((status, json.loads(text)), (200, {"why": "the run took longer than 4 s and was ended; take a smaller horizon"}))
         self.assertLess(time.monotonic() - began, 40)
         status, text, _ = self.lab.run(SCRIPT, form="trace")
@@ -93,7 +94,7 @@ class Server(unittest.TestCase):
     def test_a_newer_run_ends_the_one_before(self) -> None:
         self.lab.run(SCRIPT)
         answers: list[bytes] = []
-        older = threading.Thread(target=lambda: answers.append(self.lab.run(LONG, 9_000_000)[1]))
+        older = threading.Thread(target=lambda: answers.append(self.lab.run(LONG, FAR)[1]))
         older.start()
         time.sleep(0.7)
         self.assertIn("text", json.loads(self.lab.run(SCRIPT, form="trace")[1]))
@@ -150,7 +151,7 @@ class Program(unittest.TestCase):
     def test_a_program_with_facts_and_a_long_trace(self) -> None:
         """It writes more than a pipe holds before it is read."""
         program = [sys.executable, str(TOOLS / "reference" / "simulate.py")]
-        script = LONG.replace(b"forever", b"loop 5000")
+        script = LONG.replace(b"forever", b"loop 5000").replace(b"run 1", b"yield")
         ran = run(script, 7000, Sources(program))
         self.assertGreater(len(ran.trace), 65536)
         self.assertEqual((ran.facts_by, ran.warning), (" ".join(program), ""))
