@@ -83,7 +83,10 @@ def reference_answers(case: Case) -> Answer | None:
     if command is None:
         return Status.USAGE, USAGE
     name, number = command
-    return answer(text, min(number, FARTHEST), Stage.VERSION2, command=name)
+    if number <= FARTHEST:
+        return answer(text, number, Stage.VERSION2, command=name)
+    refused = answer(text, 0, Stage.VERSION2, command=name)
+    return None if refused[0] == Status.DONE else refused
 
 
 def program_answers(program: str, case: Case) -> Answer:
