@@ -1,14 +1,27 @@
 //! The time of an event, most of whose digits are those of the event before.
-ghost use Rattle.std.specs.Prelude.{◌≡◌, ◌≤◌, ◌<◌, ◌+◌, ◌-◌, ◌%◌, ◌^◌, decimal, length};
+ghost use Rattle.std.specs.Prelude.{◌≡◌, ◌≤◌, ◌<◌, ◌+◌, ◌-◌, ◌%◌, ◌^◌, decimal, length, take};
 ghost use Rattle.parts_bytes.specs.Placed.{Placed};
 
-use crate::place::{place_digits, place_pair};
+use crate::place::{place_digits, place_eight, place_pair};
 use itoa::Buffer;
 use parts_bytes::{place_within, place_word};
 use std::marker::Model;
 
 // Times from here on share no digits: there would be more than 16.
 const FAR: u64 = 1_000_000_000_000_000_000;
+
+// The digits of a number of at most 16, at the front. The answer is how many they are.
+#[inline(always)]
+fn place_shared(digits: &mut [u8; 16], n: u64) -> usize
+    requires { n < 10 ^ 16 }
+    ensures digits { take result digits.new ≡ decimal n }
+    ensures few { result ≤ 16 }
+{
+    if n < 100_000_000 {
+        return place_eight(digits, 0, n);
+    }
+    place_word(digits, 0, Buffer::new().format(n).as_bytes())
+}
 
 /// A hundred instants that share all digits but the last two, and these digits. It is seen as the first of the instants.
 #[derive(Drop)]
@@ -61,11 +74,7 @@ impl Hundred {
         if now < 100 || now >= FAR {
             return;
         }
-        self.len = place_word(
-            &mut self.digits,
-            0,
-            Buffer::new().format(now / 100).as_bytes(),
-        );
+        self.len = place_shared(&mut self.digits, now / 100);
         self.first = now - now % 100;
     }
 

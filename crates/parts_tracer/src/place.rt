@@ -46,13 +46,58 @@ pub(crate) fn place_numeral(buf: &mut [u8], at: usize, n: u64) -> usize
     ensures placed { Placed buf.old buf.new at (decimal n) result }
     ensures within { result ≤ at + 20 }
 {
-    if n < 10 {
-        place_byte(buf, at, b'0' + n as u8)
-    } else if n < 100 {
-        place_pair(buf, at, n)
+    if n < 100 {
+        place_two(buf, at, n)
     } else {
         place_digits(buf, at, n)
     }
+}
+
+// A number of one or two digits.
+#[inline(always)]
+fn place_two(buf: &mut [u8], at: usize, n: u64) -> usize
+    requires room { at + 2 ≤ length buf.old }
+    requires two { n < 100 }
+    ensures placed { Placed buf.old buf.new at (decimal n) result }
+    ensures within { result ≤ at + 2 }
+{
+    if n < 10 {
+        place_byte(buf, at, b'0' + n as u8)
+    } else {
+        place_pair(buf, at, n)
+    }
+}
+
+// A number of at most four digits.
+#[inline(always)]
+fn place_four(buf: &mut [u8], at: usize, n: u64) -> usize
+    requires room { at + 4 ≤ length buf.old }
+    requires four { n < 10_000 }
+    ensures placed { Placed buf.old buf.new at (decimal n) result }
+    ensures within { result ≤ at + 4 }
+{
+    if n < 100 {
+        return place_two(buf, at, n);
+    }
+    let at = place_two(buf, at, n / 100);
+    place_pair(buf, at, n % 100)
+}
+
+// A number of at most eight digits: two by two, each stored where it stays. What is stored in pieces and copied as a whole makes the copy
+// wait.
+#[inline(always)]
+pub(crate) fn place_eight(buf: &mut [u8], at: usize, n: u64) -> usize
+    requires room { at + 8 ≤ length buf.old }
+    requires eight { n < 100_000_000 }
+    ensures placed { Placed buf.old buf.new at (decimal n) result }
+    ensures within { result ≤ at + 8 }
+{
+    if n < 10_000 {
+        return place_four(buf, at, n);
+    }
+    let at = place_four(buf, at, n / 10_000);
+    let at = place_pair(buf, at, n / 100 % 100);
+    place_pair(buf, at, n % 100)
 }
 
 // Two digits of a number below 100, of which the first may be 0.
@@ -81,5 +126,8 @@ pub(crate) fn place_digits(buf: &mut [u8], at: usize, n: u64) -> usize
     ensures placed { Placed buf.old buf.new at (decimal n) result }
     ensures within { result ≤ at + 20 }
 {
+    if n < 100_000_000 {
+        return place_eight(buf, at, n);
+    }
     place_word(buf, at, Buffer::new().format(n).as_bytes())
 }

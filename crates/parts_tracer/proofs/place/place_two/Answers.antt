@@ -1,11 +1,11 @@
 use Rattle.std.proofs.Common.{arith}
 use Rattle.std.proofs.lemmas.Fmt.{decimal_digit}
 use Rattle.itoa.proofs.Decimal.{decimal_two}
-use Rattle.parts_tracer.proofs.place.place_numeral.Goals as goal
+use Rattle.parts_tracer.proofs.place.place_two.Goals as goal
 
 pub returns-then-n-lt10-clause-placed : goal.returns-then-n-lt10-clause-placed
 returns-then-n-lt10-clause-placed c = rw (decimal_digit c.args.n c.if-n-lt10.true) c.place_byte.ensures
 
-pub returns-then-n-lt100-clause-placed : goal.returns-then-n-lt100-clause-placed
-returns-then-n-lt100-clause-placed c =
-    rw (decimal_two c.args.n (omega (arith, c.if-n-lt10.false)) c.if-n-lt100.true) c.place_pair.ensures
+pub returns-else-n-lt10-clause-placed : goal.returns-else-n-lt10-clause-placed
+returns-else-n-lt10-clause-placed c =
+    rw (decimal_two c.args.n (omega (arith, c.if-n-lt10.false)) c.requires.two) c.place_pair.ensures

@@ -1,0 +1,7 @@
+use Rattle.std.proofs.Common.{arith}
+use Rattle.parts_tracer.proofs.Placed.{placed_by_pair}
+use Rattle.parts_tracer.proofs.place.place_four.Goals as goal
+
+pub returns-clause-placed : goal.returns-clause-placed
+returns-clause-placed c =
+    placed_by_pair c.args.n (omega (arith, c.if-n-lt100.false)) c.ranges.n.fits c.place_two-at.ensures.placed c.place_pair.ensures
