@@ -10,7 +10,7 @@ use Rattle.rules_flat_code.specs.FlatBodies.{code_of, flat_bodies}
 use Rattle.rules_flat_code.specs.Runnable.{IsRunnable}
 use Rattle.rules_facts.specs.Shown.{once_ended, shown, state_text}
 use Rattle.laws_facts.proofs.Shows.{flat_shows}
-use Rattle.kernel_facts.specs.Numbered.{AreNumbered}
+use Rattle.kernel_texts.specs.Numbered.{AreNumbered}
 use Rattle.laws_kernel.specs.Counts.{Counts, counts_in, counts_of}
 use Rattle.kernel_state.specs.Kernel.{Kernel, after, opened}
 use Rattle.calls_table.specs.Calls.{objects_in}

@@ -26,12 +26,12 @@ use Rattle.laws_detail.specs.Looks.{facts_told}
 use Rattle.laws_detail.specs.Subjects.{HaveSameSizes}
 use Rattle.laws_detail.proofs.Flat.{flat_tells_the_same}
 use Rattle.laws_detail.proofs.Subjects.{subjects_same}
-use Rattle.kernel_lines.specs.Rows.{left_out}
-use Rattle.kernel_facts.specs.Changed.{HaveSameSubjects, changed_lines}
-use Rattle.kernel_facts.specs.Kept.{texts_of}
-use Rattle.kernel_facts.specs.Picked.{left_in}
-use Rattle.kernel_facts.specs.Subjects.{subjects_of}
-use Rattle.kernel_facts.proofs.Whole.{ended_state}
+use Rattle.kernel_texts.specs.Rows.{left_out}
+use Rattle.kernel_texts.specs.Changed.{HaveSameSubjects, changed_lines}
+use Rattle.kernel_texts.specs.Kept.{texts_of}
+use Rattle.kernel_texts.specs.Picked.{left_in}
+use Rattle.kernel_texts.specs.Subjects.{subjects_of}
+use Rattle.kernel_texts.proofs.Whole.{ended_state}
 use Rattle.kernel_looks.proofs.Changing.{texts_are}
 use Rattle.laws_kernel.specs.Counts.{Counts}
 use Rattle.kernel_state.specs.Kernel.{opened}

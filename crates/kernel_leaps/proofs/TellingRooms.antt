@@ -16,12 +16,12 @@ use Rattle.laws_kernel.specs.Counts.{Counts}
 use Rattle.laws_kernel.proofs.Ranges.{flat_bodies_fit}
 use Rattle.parts_texts.specs.Slots.{Held, no_texts}
 use Rattle.parts_texts.specs.Texts.{Next, Told}
-use Rattle.kernel_facts.specs.Subjects.{AreSubjects}
-use Rattle.kernel_facts.specs.Kept.{Kept}
-use Rattle.kernel_facts.specs.Rooms.{AreRooms, HasFewOfEach, HasObjectsOf, HasRooms, facts_told}
-use Rattle.kernel_facts.specs.declared.rooms.Rooms.{Rooms}
-use Rattle.kernel_facts.proofs.Roomy.{rooms_hold}
-use Rattle.kernel_facts.proofs.Deep.{no_deeper}
+use Rattle.kernel_texts.specs.Subjects.{AreSubjects}
+use Rattle.kernel_texts.specs.Kept.{Kept}
+use Rattle.kernel_texts.specs.Rooms.{AreRooms, HasFewOfEach, HasObjectsOf, HasRooms, facts_told}
+use Rattle.kernel_texts.specs.declared.rooms.Rooms.{Rooms}
+use Rattle.kernel_texts.proofs.Roomy.{rooms_hold}
+use Rattle.kernel_texts.proofs.Deep.{no_deeper}
 use Rattle.kernel_seen.specs.FactSeen.{IsMemoryOf}
 use Rattle.kernel_looks.specs.Desk.{HasDeskRooms, IsOpened, IsReady}
 use Rattle.kernel_looks.specs.declared.desk.Desk.{Desk}

@@ -23,8 +23,8 @@ use Rattle.kernel_looks.specs.Desk.{IsReady}
 use Rattle.laws_detail.specs.Rests.{BeginsPlainly, OnlyTakeTime}
 use Rattle.script_printer.specs.Puts as printer
 use Rattle.script_printer.proofs.Puts.{put_same}
-use Rattle.kernel_facts.specs.Changed.{changed_lines}
-use Rattle.kernel_facts.specs.Kept.{texts_of}
+use Rattle.kernel_texts.specs.Changed.{changed_lines}
+use Rattle.kernel_texts.specs.Kept.{texts_of}
 use Rattle.kernel_state.specs.Kernel.{Kernel, after, opened, told, turn}
 use Rattle.kernel_state.specs.Stood.{StoodRight}
 use Rattle.kernel_leaps.specs.Detail.{AreBefore, GoesOn, HasGoneOn, AreReady, IsAfterQuietTick, StayIfIdle, Stops, Writes}

@@ -7,8 +7,8 @@ use Rattle.rules_facts.specs.Shown.{once_ended}
 use Rattle.script_printer.proofs.Puts.{put_nothing, put_same}
 use Rattle.script_printer.specs.Puts.{outlet}
 use Rattle.laws_detail.proofs.Looks.{is_told}
-use Rattle.kernel_facts.specs.Kept.{texts_of}
-use Rattle.kernel_facts.specs.Subjects.{subjects_of}
+use Rattle.kernel_texts.specs.Kept.{texts_of}
+use Rattle.kernel_texts.specs.Subjects.{subjects_of}
 use Rattle.kernel_state.specs.Kernel.{Kernel, opened}
 use Rattle.kernel_leaps.specs.Detail.{AreBefore, AreReady, HasGoneOn, Stops, Writes, told_by}
 use Rattle.kernel_leaps.specs.Ran.{ticked_by}

@@ -8,8 +8,8 @@ use Rattle.rules_facts.specs.Detail.{machine_before}
 use Rattle.rules_facts.specs.Facts.{facts}
 use Rattle.rules_facts.specs.Shown.{once_ended, shown_machine}
 use Rattle.laws_detail.specs.Looks.{facts_told}
-use Rattle.kernel_facts.specs.Changed.{changed_lines}
-use Rattle.kernel_facts.specs.Kept.{texts_of}
+use Rattle.kernel_texts.specs.Changed.{changed_lines}
+use Rattle.kernel_texts.specs.Kept.{texts_of}
 use Rattle.kernel_state.specs.Kernel.{Kernel}
 use Rattle.kernel_leaps.specs.Detail.{AreBefore, AreReady, StayIfIdle}
 use Rattle.kernel_leaps.specs.declared.fact_texts.FactTexts.{FactTexts}

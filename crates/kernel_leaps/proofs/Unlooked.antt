@@ -1,6 +1,6 @@
 -- Texts of facts that are not looked at, since none of them changes.
 use Rattle.std.proofs.Common.{List, [], ap, refl, ℕ, ◌∙◌, ◌∷◌, ◌≡◌, ◌++◌}
-use Rattle.kernel_facts.specs.Changed.{changed_lines}
+use Rattle.kernel_texts.specs.Changed.{changed_lines}
 use Rattle.kernel_looks.proofs.Looking.{line_same}
 
 -- what is told as before has no lines

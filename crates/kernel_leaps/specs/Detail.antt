@@ -14,9 +14,9 @@ use Rattle.rules_facts.specs.Facts.{facts}
 use Rattle.rules_facts.specs.Shown.{shown_machine}
 use Rattle.laws_detail.specs.Looks.{told_until}
 use Rattle.script_printer.specs.Puts.{Put, outlet}
-use Rattle.kernel_facts.specs.Changed.{HaveSameSubjects}
-use Rattle.kernel_facts.specs.Kept.{texts_of}
-use Rattle.kernel_facts.specs.Subjects.{subjects_of}
+use Rattle.kernel_texts.specs.Changed.{HaveSameSubjects}
+use Rattle.kernel_texts.specs.Kept.{texts_of}
+use Rattle.kernel_texts.specs.Subjects.{subjects_of}
 use Rattle.kernel_looks.specs.Desk.{HasDeskRooms, IsReady}
 use Rattle.kernel_state.specs.Kernel.{Kernel, opened}
 use Rattle.kernel_state.specs.Stood.{StoodRight}

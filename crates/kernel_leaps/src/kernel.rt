@@ -33,7 +33,7 @@ use crate::detail::write_detail;
 use crate::fact_texts::FactTexts;
 use crate::instant::handle_items;
 use crate::run::{RunEnd, run_leaps};
-use kernel_facts::write_state;
+use kernel_shown::write_state;
 use kernel_state::Parts;
 use parts_io::{Failed, Sink};
 use parts_server::BudgetLine;

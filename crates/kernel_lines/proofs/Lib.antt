@@ -1,4 +1,2 @@
-pub mod Lines
-pub mod Puts
 pub mod Served
 pub mod Stands

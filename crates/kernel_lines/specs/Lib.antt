@@ -1,5 +1,1 @@
-pub mod Lines
-pub mod Rows
 pub mod InLine
-pub mod Modest
-pub mod Short

@@ -2,11 +2,11 @@
 use Rattle.std.proofs.Common.{◌≡◌, ◌∙◌, ◌*◌, ◌<◌, List, ◌++◌, ap, append_assoc, arith, false, length, refl, sym, true, ℕ}
 use Rattle.words_script.specs.declared.decl.Decl.{Decl}
 use Rattle.rules_machine.specs.State.{Machine}
-use Rattle.kernel_lines.specs.Lines.{fact_text}
-use Rattle.kernel_lines.specs.Rows.{thread_fact_of}
-use Rattle.kernel_lines.specs.declared.rows.ThreadRow.{ThreadRow}
-use Rattle.kernel_lines.specs.declared.rows.ThreadRow.TheVariants as thread
-use Rattle.kernel_facts.specs.Kept.{thread_row_kept}
+use Rattle.kernel_texts.specs.Lines.{fact_text}
+use Rattle.kernel_texts.specs.Rows.{thread_fact_of}
+use Rattle.kernel_texts.specs.declared.rows.ThreadRow.{ThreadRow}
+use Rattle.kernel_texts.specs.declared.rows.ThreadRow.TheVariants as thread
+use Rattle.kernel_texts.specs.Kept.{thread_row_kept}
 use Rattle.kernel_looks.specs.Nothings.{inner_rows_kept, is_inner, nothings}
 use Rattle.kernel_looks.specs.Nothing.{TellsNothing, is_status}
 use Rattle.kernel_looks.proofs.Runs.{kept_nothing, nothings_sum}

@@ -12,11 +12,11 @@ use Rattle.script_writer.specs.Line.{line_text}
 use Rattle.rules_facts.specs.Detail.{changed, timed_line}
 use Rattle.rules_facts.specs.Fact.{Fact, arming_of, blocked_thread, cancelability, dormant_thread, ended_thread, inner_frames, masked, messages_of, on_list, owner, pending_signals, pushed_cleanups, ready_thread, receivers_of, registration_of, replenishments, semaphore_value, senders_of, waiters_of}
 use Rattle.rules_facts.specs.Spelled.{subject, told}
-use Rattle.kernel_lines.specs.Lines.{fact_text, told_text}
-use Rattle.kernel_lines.proofs.Lines.{joined-append}
-use Rattle.kernel_facts.specs.Changed.{HaveSameSubjects, behind_subject, changed_line, changed_lines, line_or_subject, subject_text}
-use Rattle.kernel_facts.specs.Kept.{texts_of}
-use Rattle.kernel_facts.proofs.Whole.{joined_same}
+use Rattle.kernel_texts.specs.Lines.{fact_text, told_text}
+use Rattle.kernel_texts.proofs.Lines.{joined-append}
+use Rattle.kernel_texts.specs.Changed.{HaveSameSubjects, behind_subject, changed_line, changed_lines, line_or_subject, subject_text}
+use Rattle.kernel_texts.specs.Kept.{texts_of}
+use Rattle.kernel_texts.proofs.Whole.{joined_same}
 
 -- ---- what is behind the subject
 

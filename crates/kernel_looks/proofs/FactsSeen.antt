@@ -6,8 +6,8 @@ use Rattle.std.proofs.lemmas.List.{get_or-replicate, get_or-set_other, get_or-se
 use Rattle.words_script.specs.declared.decl.Decl.{Decl}
 use Rattle.parts_texts.specs.Texts.{Next}
 use Rattle.rules_facts.specs.Fact.{Fact}
-use Rattle.kernel_lines.specs.Lines.{fact_text, facts_text}
-use Rattle.kernel_lines.specs.Short.{HasShortText, HaveShortTexts}
+use Rattle.kernel_texts.specs.Lines.{fact_text, facts_text}
+use Rattle.kernel_texts.specs.Short.{HasShortText, HaveShortTexts}
 use Rattle.kernel_seen.specs.FactSeen.{AreSameElse, IsMemoryOf, IsOf, IsOnlyOf, Memory, TellsIfAny, TellsShortly, fact_seen, may_tell, no_memory}
 use Rattle.kernel_seen.specs.declared.fact_seen.FactSeen.{FactSeen}
 use Rattle.kernel_seen.specs.declared.fact_seen.FactSeen.TheVariants as seen

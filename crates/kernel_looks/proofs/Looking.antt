@@ -10,8 +10,8 @@ use Rattle.std.proofs.lemmas.List.Sums.{sum_by-append, sum_by-cons}
 use Rattle.parts_texts.specs.Slots.{Held}
 use Rattle.parts_texts.specs.Texts.{Next, Told}
 use Rattle.script_printer.specs.Puts.{Put, outlet}
-use Rattle.kernel_facts.specs.Changed.{behind_subject, changed_line, changed_lines, line_or_subject}
-use Rattle.kernel_facts.proofs.Keeping.{all_first, all_last, faults_told, part_text, succeeds, text_told, whole_text}
+use Rattle.kernel_texts.specs.Changed.{behind_subject, changed_line, changed_lines, line_or_subject}
+use Rattle.kernel_texts.proofs.Keeping.{all_first, all_last, faults_told, part_text, succeeds, text_told, whole_text}
 use Rattle.kernel_looks.specs.Desk.{HasSpace, HaveSameSpace, Looked, Went, WentOn, WentOver, line_room, subjects_left, told_left}
 use Rattle.kernel_looks.specs.declared.desk.Desk.{Desk}
 

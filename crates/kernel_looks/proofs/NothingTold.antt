@@ -16,16 +16,16 @@ use Rattle.rules_facts.specs.Order.{in_order}
 use Rattle.rules_facts.specs.Signals.{pending_of, signal_fact}
 use Rattle.rules_facts.specs.Threads.{inner_bodies, living, planned}
 use Rattle.kernel_lines.specs.InLine.{stands_in}
-use Rattle.kernel_lines.specs.Lines.{fact_text, facts_text}
-use Rattle.kernel_lines.specs.Rows.{thread_fact_of}
-use Rattle.kernel_lines.specs.Short.{HasShortText, HaveShortTexts}
-use Rattle.kernel_lines.specs.declared.rows.ThreadRow.{ThreadRow}
-use Rattle.kernel_lines.specs.declared.rows.ThreadRow.TheVariants as thread
+use Rattle.kernel_texts.specs.Lines.{fact_text, facts_text}
+use Rattle.kernel_texts.specs.Rows.{thread_fact_of}
+use Rattle.kernel_texts.specs.Short.{HasShortText, HaveShortTexts}
+use Rattle.kernel_texts.specs.declared.rows.ThreadRow.{ThreadRow}
+use Rattle.kernel_texts.specs.declared.rows.ThreadRow.TheVariants as thread
 use Rattle.kernel_lines.specs.declared.waiters.Line.{Line}
 use Rattle.kernel_lines.specs.declared.waiters.Line.TheVariants as line
-use Rattle.kernel_facts.specs.Kept.{waiters_text}
-use Rattle.kernel_facts.specs.Picked.{is_left_out, left_in}
-use Rattle.kernel_facts.proofs.Living.{living_is, living_not}
+use Rattle.kernel_texts.specs.Kept.{waiters_text}
+use Rattle.kernel_texts.specs.Picked.{is_left_out, left_in}
+use Rattle.kernel_texts.proofs.Living.{living_is, living_not}
 use Rattle.kernel_looks.specs.Nothing.{IsBare, TellNothing, TellsNothing, is_status, told_of, wait_obj}
 
 -- a list without a first member

@@ -7,9 +7,9 @@ use Rattle.parts_links.proofs.Chains.{decide}
 use Rattle.rules_machine.specs.State.{Machine, SignalRecord}
 use Rattle.rules_facts.specs.Fact.{pending_signals}
 use Rattle.rules_facts.specs.Signals.{pending_of, signal_fact}
-use Rattle.kernel_lines.specs.Lines.{fact_text}
-use Rattle.kernel_facts.specs.Picked.{is_left_out, left_in}
-use Rattle.kernel_facts.proofs.ShortFacts.{all_more}
+use Rattle.kernel_texts.specs.Lines.{fact_text}
+use Rattle.kernel_texts.specs.Picked.{is_left_out, left_in}
+use Rattle.kernel_texts.proofs.ShortFacts.{all_more}
 use Rattle.kernel_looks.specs.Nothing.{TellsNothing}
 use Rattle.kernel_looks.specs.PendingSignals.{AreMarked}
 

@@ -4,10 +4,10 @@ use Rattle.words_script.specs.declared.decl.Decl.{Decl}
 use Rattle.rules_facts.specs.Objects.{in_service_order}
 use Rattle.rules_machine.specs.State.{Machine}
 use Rattle.kernel_lines.specs.InLine.{stands_in}
-use Rattle.kernel_lines.specs.Lines.{fact_text}
-use Rattle.kernel_lines.specs.Short.{HasShortText}
-use Rattle.kernel_facts.specs.Kept.{waiters_text}
-use Rattle.kernel_facts.proofs.ShortFacts.{both_short}
+use Rattle.kernel_texts.specs.Lines.{fact_text}
+use Rattle.kernel_texts.specs.Short.{HasShortText}
+use Rattle.kernel_texts.specs.Kept.{waiters_text}
+use Rattle.kernel_texts.proofs.ShortFacts.{both_short}
 use Rattle.kernel_seen.specs.KeptLines.{line_fact, queue_line}
 
 -- of a queue that fact is what is told of it, and its text is short

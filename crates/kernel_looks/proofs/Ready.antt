@@ -6,9 +6,9 @@ use Rattle.std.proofs.lemmas.List.{drop_all, take-append-drop}
 use Rattle.std.proofs.lemmas.List.Sums.{sum_by-cons}
 use Rattle.words_script.specs.declared.decl.Script.{Script}
 use Rattle.parts_texts.specs.Texts.{Next, Told}
-use Rattle.kernel_facts.specs.Changed.{changed_lines}
-use Rattle.kernel_facts.specs.Subjects.{AreSubjects}
-use Rattle.kernel_facts.specs.Rooms.{HasRooms, facts_told}
+use Rattle.kernel_texts.specs.Changed.{changed_lines}
+use Rattle.kernel_texts.specs.Subjects.{AreSubjects}
+use Rattle.kernel_texts.specs.Rooms.{HasRooms, facts_told}
 use Rattle.kernel_seen.specs.FactSeen.{IsMemoryOf}
 use Rattle.kernel_looks.specs.Desk.{HasSpace, HaveSameSpace, IsReady, Looked, WentOn, line_room}
 use Rattle.kernel_looks.specs.declared.desk.Desk.{Desk}

@@ -1,8 +1,8 @@
 -- One row behind another.
 use Rattle.std.proofs.Common.{◌≡◌, ◌∙◌, ◌+◌, List, [], ◌∷◌, ◌++◌, ap, append-nil, append_assoc, arith, refl, suc, sym, zero, ℕ}
 use Rattle.words_script.specs.declared.decl.Decl.{Decl}
-use Rattle.kernel_lines.specs.Rows.{list_text}
-use Rattle.kernel_facts.specs.Kept.{kept_below}
+use Rattle.kernel_texts.specs.Rows.{list_text}
+use Rattle.kernel_texts.specs.Kept.{kept_below}
 use Rattle.kernel_looks.specs.Nothings.{lists_from}
 
 pub kept_sum : (f : ℕ → List (List ℕ)) (a n all : ℕ) → all ≡ a + n → kept_below f all ≡ kept_below f a ++ kept_below (λ (i : ℕ). f (a + i)) n

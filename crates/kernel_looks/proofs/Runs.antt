@@ -3,7 +3,7 @@ use Rattle.std.proofs.Common.{◌≡◌, ◌∙◌, ◌+◌, ◌<◌, ◌≤◌,
 use Rattle.std.specs.Prelude.{slice_index_or}
 use Rattle.words_script.specs.declared.decl.Decl.{Decl}
 use Rattle.parts_texts.specs.Texts.{Next}
-use Rattle.kernel_facts.specs.Kept.{kept_below}
+use Rattle.kernel_texts.specs.Kept.{kept_below}
 use Rattle.kernel_seen.specs.FactSeen.{IsMemoryOf, may_tell}
 use Rattle.kernel_looks.specs.Nothings.{WentKnown, nothings}
 use Rattle.kernel_looks.specs.Desk.{Went, WentOn}

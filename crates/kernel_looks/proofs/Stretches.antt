@@ -4,8 +4,8 @@ use Rattle.std.specs.Prelude.{is_some, slice_index_or}
 use Rattle.words_script.specs.declared.decl.Decl.{Decl}
 use Rattle.parts_texts.specs.Texts.{Next}
 use Rattle.rules_facts.specs.Fact.{Fact}
-use Rattle.kernel_lines.specs.Lines.{fact_text}
-use Rattle.kernel_facts.specs.Kept.{kept_below}
+use Rattle.kernel_texts.specs.Lines.{fact_text}
+use Rattle.kernel_texts.specs.Kept.{kept_below}
 use Rattle.kernel_seen.specs.FactSeen.{IsMemoryOf, IsOf, fact_seen, may_tell}
 use Rattle.kernel_seen.specs.declared.fact_seen.FactSeen.{FactSeen}
 use Rattle.kernel_seen.specs.declared.fact_seen.FactSeen.TheVariants as seen

@@ -3,10 +3,10 @@ use Rattle.std.specs.Prelude.{List, [], length, slice_index_or, ℕ, ◌+◌, �
 use Rattle.words_script.specs.declared.decl.Decl.{Decl}
 use Rattle.rules_machine.specs.State.{Machine}
 use Rattle.rules_facts.specs.Fact.{Fact}
-use Rattle.kernel_lines.specs.Lines.{fact_text}
-use Rattle.kernel_lines.specs.Rows.{thread_fact_of}
-use Rattle.kernel_lines.specs.declared.rows.ThreadRow.{ThreadRow}
-use Rattle.kernel_facts.specs.Kept.{kept_below}
+use Rattle.kernel_texts.specs.Lines.{fact_text}
+use Rattle.kernel_texts.specs.Rows.{thread_fact_of}
+use Rattle.kernel_texts.specs.declared.rows.ThreadRow.{ThreadRow}
+use Rattle.kernel_texts.specs.Kept.{kept_below}
 use Rattle.kernel_seen.specs.FactSeen.{IsMemoryOf, TellsShortly}
 use Rattle.kernel_looks.specs.declared.ahead.Stretch.{Stretch}
 use Rattle.kernel_looks.specs.declared.desk.Desk.{Desk}

@@ -4,11 +4,11 @@ use Rattle.std.specs.List.{AllByRecursion}
 use Rattle.words_script.specs.declared.decl.Script.{Script}
 use Rattle.parts_texts.specs.Slots.{no_texts}
 use Rattle.parts_texts.specs.Texts.{Next}
-use Rattle.kernel_lines.specs.Short.{longest_text}
-use Rattle.kernel_facts.specs.Changed.{changed_lines}
-use Rattle.kernel_facts.specs.Subjects.{AreSubjects}
-use Rattle.kernel_facts.specs.Rooms.{HasRooms, facts_told, members_told, no_text}
-use Rattle.kernel_facts.specs.declared.rooms.Rooms.{Rooms}
+use Rattle.kernel_texts.specs.Short.{longest_text}
+use Rattle.kernel_texts.specs.Changed.{changed_lines}
+use Rattle.kernel_texts.specs.Subjects.{AreSubjects}
+use Rattle.kernel_texts.specs.Rooms.{HasRooms, facts_told, members_told, no_text}
+use Rattle.kernel_texts.specs.declared.rooms.Rooms.{Rooms}
 use Rattle.kernel_seen.specs.FactSeen.{IsMemoryOf, no_memory}
 use Rattle.kernel_seen.specs.declared.fact_seen.FactSeen.{FactSeen}
 use Rattle.kernel_seen.specs.declared.fact_seen.FactSeen.TheVariants as seen

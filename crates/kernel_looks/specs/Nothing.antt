@@ -4,13 +4,13 @@ use Rattle.words_script.specs.declared.decl.Decl.{Decl}
 use Rattle.rules_machine.specs.State.{Thread}
 use Rattle.rules_facts.specs.Fact.{Fact, cancelability, inner_frames, masked, pushed_cleanups, replenishments}
 use Rattle.rules_facts.specs.Threads.{cancelability_of, inner_bodies, planned}
-use Rattle.kernel_lines.specs.Lines.{fact_text, facts_text}
+use Rattle.kernel_texts.specs.Lines.{fact_text, facts_text}
 use Rattle.parts_waiters.specs.declared.WaitObj.{WaitObj}
 use Rattle.parts_waiters.specs.declared.WaitObj.TheVariants as wait_for
 use Rattle.kernel_lines.specs.declared.waiters.Line.{Line}
 use Rattle.kernel_lines.specs.declared.waiters.Line.TheVariants as line
-use Rattle.kernel_lines.specs.declared.rows.ThreadRow.{ThreadRow}
-use Rattle.kernel_lines.specs.declared.rows.ThreadRow.TheVariants as thread
+use Rattle.kernel_texts.specs.declared.rows.ThreadRow.{ThreadRow}
+use Rattle.kernel_texts.specs.declared.rows.ThreadRow.TheVariants as thread
 
 abbrev pub TellsNothing : Fact → Type 0
 TellsNothing f = (decls : List Decl) → fact_text decls f ≡ []

@@ -5,10 +5,10 @@ use Rattle.parts_texts.specs.Texts.{Next}
 use Rattle.rules_lists.specs.Lists.{list_of}
 use Rattle.rules_facts.specs.Fact.{Fact, on_list}
 use Rattle.rules_machine.specs.State.{Machine}
-use Rattle.kernel_lines.specs.Rows.{list_text}
-use Rattle.kernel_lines.specs.declared.rows.ThreadRow.{ThreadRow}
-use Rattle.kernel_lines.specs.declared.rows.ThreadRow.TheVariants as thread
-use Rattle.kernel_facts.specs.Kept.{kept_below, thread_row_kept}
+use Rattle.kernel_texts.specs.Rows.{list_text}
+use Rattle.kernel_texts.specs.declared.rows.ThreadRow.{ThreadRow}
+use Rattle.kernel_texts.specs.declared.rows.ThreadRow.TheVariants as thread
+use Rattle.kernel_texts.specs.Kept.{kept_below, thread_row_kept}
 use Rattle.kernel_seen.specs.FactSeen.{IsMemoryOf}
 use Rattle.kernel_looks.specs.Desk.{WentOn}
 use Rattle.kernel_looks.specs.declared.desk.Desk.{Desk}

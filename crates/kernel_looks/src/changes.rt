@@ -1,7 +1,7 @@
 //! The line of a fact that changes.
 ghost use Rattle.std.specs.Prelude.{◌≡◌, length};
 ghost use Rattle.script_printer.specs.Puts.{Puts};
-ghost use Rattle.kernel_facts.specs.Changed.{behind_subject, changed_line, line_or_subject};
+ghost use Rattle.kernel_texts.specs.Changed.{behind_subject, changed_line, line_or_subject};
 
 use parts_io::Sink;
 use script_printer::Printer;

@@ -2,15 +2,15 @@
 ghost use Rattle.std.specs.Prelude.{◌≡◌, ◌<◌, ◌≤◌, ◌^◌, ◌+◌, ◌-◌, ◌∷◌, [], IfOk, List, false, length, slice_index_or, true};
 ghost use Rattle.words_script.specs.declared.decl.Decl.{Decl};
 ghost use Rattle.script_printer.specs.Puts.{Put, outlet};
-ghost use Rattle.kernel_facts.specs.Changed.{changed_line};
+ghost use Rattle.kernel_texts.specs.Changed.{changed_line};
 ghost use Rattle.kernel_seen.specs.FactSeen.{IsMemoryOf, TellsIfAny, fact_seen};
 ghost use Rattle.kernel_seen.specs.declared.fact_seen.FactSeen.TheVariants as variant;
 ghost use Rattle.kernel_looks.specs.Ahead.{HavePlaces};
 ghost use Rattle.kernel_looks.specs.Desk.{IsOpened, Went, WentOver};
 
 use crate::changes::put_changed_line;
-use kernel_facts::Rooms;
 use kernel_seen::{FactSeen, SeenFacts};
+use kernel_texts::Rooms;
 use parts_io::Sink;
 use parts_texts::{NextText, Slots, Texts};
 use script_printer::Printer;

@@ -2,8 +2,8 @@
 ghost use Rattle.std.specs.Prelude.{ℕ, ◌≡◌, ◌≤◌, ◌<◌, ◌+◌, ◌∷◌, [], length, true};
 ghost use Rattle.rules_lists.specs.Lists.{list_of};
 ghost use Rattle.rules_facts.specs.Fact.{on_list};
-ghost use Rattle.kernel_lines.specs.Lines.{fact_text};
-ghost use Rattle.kernel_facts.specs.Kept.{lists_kept};
+ghost use Rattle.kernel_texts.specs.Lines.{fact_text};
+ghost use Rattle.kernel_texts.specs.Kept.{lists_kept};
 ghost use Rattle.kernel_seen.specs.FactSeen.{IsMemoryOf};
 ghost use Rattle.kernel_looks.specs.Ahead.{IsStretch, IsToldAt, past};
 ghost use Rattle.kernel_looks.specs.Desk.{WentOn};
@@ -12,10 +12,10 @@ ghost use Rattle.kernel_looks.specs.Nothings.{list_at, lists_from};
 use crate::ahead::Stretch;
 use crate::desk::Desk;
 use crate::nothing::list_tells_nothing;
-use kernel_facts::{print_list, prio_of};
 use kernel_lines::Declared;
 use kernel_seen::{is_list, see_list};
 use kernel_state::Parts;
+use kernel_thread_facts::{print_list, prio_of};
 use parts_texts::NextText;
 use words_numbers::Prio;
 

@@ -1,19 +1,19 @@
 //! A look at the pending signals.
 ghost use Rattle.std.specs.Prelude.{ℕ, ◌≡◌, ◌∷◌, ◌<◌, [], false, length, slice_set, true};
 ghost use Rattle.rules_facts.specs.Signals.{signal_fact};
-ghost use Rattle.kernel_lines.specs.Lines.{fact_text};
-ghost use Rattle.kernel_lines.specs.Rows.{left_out};
-ghost use Rattle.kernel_lines.specs.Short.{HasShortText};
-ghost use Rattle.kernel_facts.specs.Kept.{signals_kept};
-ghost use Rattle.kernel_facts.specs.Picked.{left_in};
+ghost use Rattle.kernel_texts.specs.Lines.{fact_text};
+ghost use Rattle.kernel_texts.specs.Rows.{left_out};
+ghost use Rattle.kernel_texts.specs.Short.{HasShortText};
+ghost use Rattle.kernel_texts.specs.Kept.{signals_kept};
+ghost use Rattle.kernel_texts.specs.Picked.{left_in};
 ghost use Rattle.kernel_seen.specs.FactSeen.{IsMemoryOf};
 ghost use Rattle.kernel_looks.specs.Desk.{WentOn};
 ghost use Rattle.kernel_looks.specs.Nothing.{TellsNothing};
 ghost use Rattle.kernel_looks.specs.PendingSignals.{AreMarked};
 
 use crate::desk::Desk;
-use kernel_facts::{left_out, print_signal};
 use kernel_lines::Declared;
+use kernel_object_facts::{left_out, print_signal};
 use kernel_seen::FactSeen;
 use kernel_state::Parts;
 use parts_texts::NextText;

@@ -1,10 +1,10 @@
 //! A look at what is told of threads.
 ghost use Rattle.std.specs.Prelude.{ℕ, ◌≡◌, ◌≤◌, ◌+◌, ◌∷◌, ◌<◌, [], length, true};
-ghost use Rattle.kernel_lines.specs.Lines.{fact_text};
-ghost use Rattle.kernel_lines.specs.Rows.{thread_fact_of};
-ghost use Rattle.kernel_lines.specs.Short.{HasShortText};
-ghost use Rattle.kernel_lines.specs.declared.rows.ThreadRow.{ThreadRow};
-ghost use Rattle.kernel_facts.specs.Kept.{thread_row_kept, threads_kept};
+ghost use Rattle.kernel_texts.specs.Lines.{fact_text};
+ghost use Rattle.kernel_texts.specs.Rows.{thread_fact_of};
+ghost use Rattle.kernel_texts.specs.Short.{HasShortText};
+ghost use Rattle.kernel_texts.specs.declared.rows.ThreadRow.{ThreadRow};
+ghost use Rattle.kernel_texts.specs.Kept.{thread_row_kept, threads_kept};
 ghost use Rattle.kernel_seen.specs.FactSeen.{IsMemoryOf};
 ghost use Rattle.kernel_looks.specs.Ahead.{IsStretch, IsToldAt, past, row_from};
 ghost use Rattle.kernel_looks.specs.Nothings.{is_inner, inner_rows_kept};
@@ -13,10 +13,11 @@ ghost use Rattle.kernel_looks.specs.Desk.{WentOn};
 use crate::ahead::Stretch;
 use crate::desk::Desk;
 use crate::nothing::{are_bare_inside, thread_tells_nothing};
-use kernel_facts::print_thread_fact;
-use kernel_lines::{Declared, ThreadRow};
+use kernel_lines::Declared;
 use kernel_seen::{is_of_thread, see_thread};
 use kernel_state::Parts;
+use kernel_texts::ThreadRow;
+use kernel_thread_facts::print_thread_fact;
 use parts_texts::NextText;
 use words_numbers::Tid;
 

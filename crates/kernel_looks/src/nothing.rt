@@ -7,15 +7,16 @@ ghost use Rattle.rules_facts.specs.Objects.{in_service_order, owner_fact, timer_
 ghost use Rattle.rules_facts.specs.Queues.{registration_fact};
 ghost use Rattle.rules_facts.specs.Threads.{inner_bodies, planned};
 ghost use Rattle.kernel_lines.specs.InLine.{stands_in};
-ghost use Rattle.kernel_lines.specs.Rows.{object_count, object_facts, thread_fact_of};
-ghost use Rattle.kernel_lines.specs.declared.rows.ThreadRow.{ThreadRow};
-ghost use Rattle.kernel_facts.specs.Kept.{waiters_text};
+ghost use Rattle.kernel_texts.specs.Rows.{object_count, object_facts, thread_fact_of};
+ghost use Rattle.kernel_texts.specs.declared.rows.ThreadRow.{ThreadRow};
+ghost use Rattle.kernel_texts.specs.Kept.{waiters_text};
 ghost use Rattle.kernel_looks.specs.Nothings.{is_inner};
 ghost use Rattle.kernel_looks.specs.Nothing.{IsBare, TellNothing, TellsNothing, is_status, wait_obj};
 
-use kernel_facts::is_main;
-use kernel_lines::{Declared, Line, ObjectRow, ThreadRow};
+use kernel_lines::{Declared, Line};
 use kernel_state::Parts;
+use kernel_texts::{ObjectRow, ThreadRow};
+use kernel_thread_facts::is_main;
 use kernel_threads::{Frame, Thread};
 use parts_server::Server;
 use parts_waiters::WaitObj;

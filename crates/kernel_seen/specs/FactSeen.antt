@@ -8,8 +8,8 @@ use Rattle.rules_facts.specs.Queues.{is_received_before}
 use Rattle.parts_waiters.specs.declared.order.Candidate.{Candidate}
 use Rattle.parts_waiters.specs.Places.{comes_before}
 use Rattle.kernel_lines.specs.InLine.{line_of}
-use Rattle.kernel_lines.specs.Lines.{fact_text}
-use Rattle.kernel_lines.specs.Short.{HasShortText}
+use Rattle.kernel_texts.specs.Lines.{fact_text}
+use Rattle.kernel_texts.specs.Short.{HasShortText}
 use Rattle.kernel_seen.specs.FewSeen.{messages_in, threads_in}
 use Rattle.kernel_seen.specs.KeptLines.{line_fact, waiters_in}
 use Rattle.kernel_seen.specs.Seen.{seen_fact}

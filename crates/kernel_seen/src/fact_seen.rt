@@ -3,15 +3,16 @@ ghost use Rattle.std.specs.Prelude.{ℕ, ◌≡◌, ◌<◌, ◌≤◌, ◌+◌,
 ghost use Rattle.rules_lists.specs.Lists.{list_of};
 ghost use Rattle.rules_facts.specs.Fact.{on_list, replenishments};
 ghost use Rattle.rules_facts.specs.Threads.{cancelability_fact, mask_fact, pending_fact, thread_fact};
-ghost use Rattle.kernel_lines.specs.Rows.{thread_fact_of};
+ghost use Rattle.kernel_texts.specs.Rows.{thread_fact_of};
 ghost use Rattle.kernel_seen.specs.FactSeen.{AreSameElse, IsOf, fact_seen, may_tell, no_memory};
 ghost use Rattle.kernel_seen.specs.declared.fact_seen.FactSeen.TheVariants as variant;
 
 use crate::few::{FewMessages, FewThreads, stand_on_list};
 use crate::kept_line::FewWaiters;
 use crate::seen::{Seen, is_as_seen, see};
-use kernel_lines::{LineSort, ThreadRow};
+use kernel_lines::LineSort;
 use kernel_state::Parts;
+use kernel_texts::ThreadRow;
 use parts_bits::words::{first_bit, with_bit, without_bit};
 use parts_filled::filled;
 use parts_server::Replenish;

@@ -2,15 +2,16 @@
 ghost use Rattle.std.specs.Prelude.{◌≡◌, ◌<◌, is_some, length, true};
 ghost use Rattle.rules_facts.specs.Objects.{owner_fact, timer_fact};
 ghost use Rattle.rules_facts.specs.Queues.{messages_fact, registration_fact};
-ghost use Rattle.kernel_lines.specs.Rows.{object_count, object_facts};
+ghost use Rattle.kernel_texts.specs.Rows.{object_count, object_facts};
 ghost use Rattle.kernel_seen.specs.FactSeen.{IsOf, IsOnlyOf, fact_seen};
 ghost use Rattle.kernel_seen.specs.declared.fact_seen.FactSeen.TheVariants as variant;
 
 use crate::fact_seen::FactSeen;
 use crate::few::{are_held, see_messages};
 use crate::kept_line::{is_line, see_line};
-use kernel_lines::{Declared, Line, ObjectRow};
+use kernel_lines::{Declared, Line};
 use kernel_state::Parts;
+use kernel_texts::ObjectRow;
 use words_numbers::{ObjId, Tid};
 
 // ---- whether the same is seen

@@ -10,7 +10,7 @@ use Rattle.rules_flat_code.specs.FlatBodies.{flat_bodies}
 use Rattle.rules_leaps.specs.Leap.{leap_runs, ticks_to_next}
 use Rattle.script_printer.specs.Puts as printer
 use Rattle.script_printer.proofs.Puts.{put_nothing, put_same}
-use Rattle.kernel_facts.specs.Rooms.{HasObjectsOf}
+use Rattle.kernel_texts.specs.Rooms.{HasObjectsOf}
 use Rattle.kernel_state.specs.Kernel.{Kernel, told}
 use Rattle.kernel_state.specs.Stood.{StoodRight}
 use Rattle.calls_table.specs.Calls.{objects_in}

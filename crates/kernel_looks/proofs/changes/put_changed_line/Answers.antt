@@ -1,8 +1,8 @@
 use Rattle.std.proofs.Common.{◌≡◌, arith, false}
 use Rattle.std.specs.Str.{bytes_eq}
 use Rattle.script_printer.proofs.Puts.{puts_both}
-use Rattle.kernel_lines.proofs.Puts.{puts_as}
-use Rattle.kernel_facts.specs.Changed.{behind_subject}
+use Rattle.kernel_texts.proofs.Puts.{puts_as}
+use Rattle.kernel_texts.specs.Changed.{behind_subject}
 use Rattle.kernel_looks.proofs.Changing.{line_changes}
 use Rattle.kernel_looks.proofs.changes.put_changed_line.Goals as goal
 

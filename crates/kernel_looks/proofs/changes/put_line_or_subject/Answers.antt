@@ -1,6 +1,6 @@
 use Rattle.std.proofs.Common.{◌≡◌, arith, length, sym}
 use Rattle.script_printer.proofs.Puts.{puts_both}
-use Rattle.kernel_lines.proofs.Puts.{puts_as}
+use Rattle.kernel_texts.proofs.Puts.{puts_as}
 use Rattle.kernel_looks.proofs.Changing.{line_none, line_some}
 use Rattle.kernel_looks.proofs.changes.put_line_or_subject.Goals as goal
 

@@ -2,25 +2,25 @@ use Rattle.std.proofs.Common.{List, ap, arith, length, refl, subst, sym, ◌<◌
 use Rattle.words_script.specs.declared.decl.Decl.{Decl}
 use Rattle.rules_facts.specs.Facts.{facts}
 use Rattle.rules_facts.specs.Shown.{once_ended}
-use Rattle.kernel_lines.specs.Rows.{left_out, object_count, object_facts, thread_fact_of}
-use Rattle.kernel_lines.specs.Short.{HasShortText, HaveShortTexts}
-use Rattle.kernel_lines.specs.declared.rows.ObjectRow.{ObjectRow}
-use Rattle.kernel_lines.specs.declared.rows.ObjectRow.TheVariants as object
-use Rattle.kernel_lines.specs.declared.rows.ThreadRow.{ThreadRow}
-use Rattle.kernel_lines.specs.declared.rows.ThreadRow.TheVariants as thread
-use Rattle.kernel_facts.specs.Kept.{lists_kept, signals_kept, texts_of, threads_kept}
-use Rattle.kernel_facts.specs.Picked.{left_in}
+use Rattle.kernel_texts.specs.Rows.{left_out, object_count, object_facts, thread_fact_of}
+use Rattle.kernel_texts.specs.Short.{HasShortText, HaveShortTexts}
+use Rattle.kernel_texts.specs.declared.rows.ObjectRow.{ObjectRow}
+use Rattle.kernel_texts.specs.declared.rows.ObjectRow.TheVariants as object
+use Rattle.kernel_texts.specs.declared.rows.ThreadRow.{ThreadRow}
+use Rattle.kernel_texts.specs.declared.rows.ThreadRow.TheVariants as thread
+use Rattle.kernel_texts.specs.Kept.{lists_kept, signals_kept, texts_of, threads_kept}
+use Rattle.kernel_texts.specs.Picked.{left_in}
 use Rattle.kernel_seen.specs.FactSeen.{IsMemoryOf}
 use Rattle.kernel_looks.specs.Desk.{WentOn}
 use Rattle.rules_bodies.specs.declared.cursor.Cursor.{Cursor}
 use Rattle.rules_machine.specs.State.{Machine}
 use Rattle.rules_facts.specs.Signals.{signal_fact}
-use Rattle.kernel_lines.specs.Modest.{NamesAreShort}
-use Rattle.kernel_facts.proofs.Modest.{number_len}
-use Rattle.kernel_facts.proofs.Roomy.{facts_fit, facts_number}
-use Rattle.kernel_facts.proofs.KeptFacts.{state_kept}
-use Rattle.kernel_facts.proofs.ShortFacts.{each_object_row, each_thread_row, state_short}
-use Rattle.kernel_facts.proofs.Whole.{ended_state}
+use Rattle.kernel_texts.specs.Modest.{NamesAreShort}
+use Rattle.kernel_texts.proofs.Modest.{number_len}
+use Rattle.kernel_texts.proofs.Roomy.{facts_fit, facts_number}
+use Rattle.kernel_texts.proofs.KeptFacts.{state_kept}
+use Rattle.kernel_texts.proofs.ShortFacts.{each_object_row, each_thread_row, state_short}
+use Rattle.kernel_texts.proofs.Whole.{ended_state}
 use Rattle.kernel_looks.proofs.Looking.{went_both}
 use Rattle.kernel_looks.proofs.Ready.{begun, has_looked, is_roomy, roomy_list}
 use Rattle.kernel_looks.specs.declared.desk.Desk.{Desk}

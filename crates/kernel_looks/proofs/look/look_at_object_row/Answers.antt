@@ -1,6 +1,6 @@
 use Rattle.std.proofs.Common.{◌≡◌, add-one, arith, below_more, ℕ}
-use Rattle.kernel_lines.specs.Rows.{object_count, object_facts}
-use Rattle.kernel_lines.specs.Short.{HaveShortTexts}
+use Rattle.kernel_texts.specs.Rows.{object_count, object_facts}
+use Rattle.kernel_texts.specs.Short.{HaveShortTexts}
 use Rattle.kernel_looks.proofs.Looking.{went_both, went_none}
 use Rattle.kernel_looks.proofs.look.look_at_object_row.Goals as goal
 

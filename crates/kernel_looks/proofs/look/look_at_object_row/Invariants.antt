@@ -1,8 +1,8 @@
 use Rattle.std.proofs.Common.{[], ◌∷◌, ◌<◌, ℕ}
-use Rattle.kernel_lines.specs.Lines.{facts_text}
-use Rattle.kernel_lines.specs.Rows.{object_facts}
-use Rattle.kernel_lines.specs.Short.{HaveShortTexts}
-use Rattle.kernel_facts.specs.Kept.{kept_below}
+use Rattle.kernel_texts.specs.Lines.{facts_text}
+use Rattle.kernel_texts.specs.Rows.{object_facts}
+use Rattle.kernel_texts.specs.Short.{HaveShortTexts}
+use Rattle.kernel_texts.specs.Kept.{kept_below}
 use Rattle.kernel_seen.specs.FactSeen.{IsMemoryOf}
 use Rattle.kernel_looks.specs.Desk.{WentOn}
 use Rattle.kernel_looks.proofs.look.look_at_object_row.Given as goal

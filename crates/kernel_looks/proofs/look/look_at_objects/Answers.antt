@@ -1,10 +1,10 @@
 use Rattle.std.proofs.Common.{List, subst, ◌<◌, ℕ, ◌∙◌}
 use Rattle.words_script.specs.declared.decl.Decl.{Decl}
-use Rattle.kernel_lines.specs.Rows.{object_count, object_facts}
-use Rattle.kernel_lines.specs.Short.{HaveShortTexts}
-use Rattle.kernel_lines.specs.declared.rows.ObjectRow.{ObjectRow}
-use Rattle.kernel_facts.specs.Kept.{objects_kept}
-use Rattle.kernel_facts.proofs.ShortFacts.{both_short, each_object_row}
+use Rattle.kernel_texts.specs.Rows.{object_count, object_facts}
+use Rattle.kernel_texts.specs.Short.{HaveShortTexts}
+use Rattle.kernel_texts.specs.declared.rows.ObjectRow.{ObjectRow}
+use Rattle.kernel_texts.specs.Kept.{objects_kept}
+use Rattle.kernel_texts.proofs.ShortFacts.{both_short, each_object_row}
 use Rattle.kernel_looks.specs.Desk.{WentOn}
 use Rattle.kernel_looks.proofs.Looking.{went_both}
 use Rattle.kernel_looks.proofs.look.look_at_objects.Goals as goal

@@ -1,5 +1,5 @@
 use Rattle.std.proofs.Common.{[], false, true, ◌∷◌, ◌++◌}
-use Rattle.kernel_facts.specs.Kept.{kept_below, waiters_text}
+use Rattle.kernel_texts.specs.Kept.{kept_below, waiters_text}
 use Rattle.kernel_seen.specs.FactSeen.{IsMemoryOf}
 use Rattle.kernel_looks.specs.Desk.{WentOn}
 use Rattle.kernel_looks.proofs.look.look_at_queue_waiters.Given as goal

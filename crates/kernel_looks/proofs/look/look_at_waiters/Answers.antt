@@ -1,7 +1,7 @@
 use Rattle.std.proofs.Common.{◌∙◌, ap, refl}
 use Rattle.rules_facts.specs.Objects.{in_service_order}
 use Rattle.kernel_lines.specs.InLine.{stands_in}
-use Rattle.kernel_lines.specs.Lines.{fact_text}
+use Rattle.kernel_texts.specs.Lines.{fact_text}
 use Rattle.kernel_lines.specs.declared.waiters.Line.{Line}
 use Rattle.kernel_seen.specs.KeptLines.{line_fact}
 use Rattle.kernel_looks.specs.Desk.{last_seen}

@@ -1,4 +1,4 @@
-use Rattle.kernel_facts.proofs.Keeping.{whole_text}
+use Rattle.kernel_texts.proofs.Keeping.{whole_text}
 use Rattle.kernel_seen.specs.FactSeen.{fact_seen}
 use Rattle.kernel_looks.proofs.FactsSeen.{tells_only}
 use Rattle.kernel_looks.proofs.Looking.{went_printed}

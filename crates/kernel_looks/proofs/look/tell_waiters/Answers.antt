@@ -1,10 +1,10 @@
 use Rattle.std.proofs.Common.{◌∙◌, ap, subst, sym}
 use Rattle.rules_facts.specs.Objects.{in_service_order}
 use Rattle.kernel_lines.specs.InLine.{stands_in}
-use Rattle.kernel_lines.specs.Lines.{fact_text}
-use Rattle.kernel_lines.specs.Short.{HasShortText}
+use Rattle.kernel_texts.specs.Lines.{fact_text}
+use Rattle.kernel_texts.specs.Short.{HasShortText}
 use Rattle.kernel_lines.specs.declared.waiters.Line.{Line}
-use Rattle.kernel_facts.proofs.Keeping.{whole_text}
+use Rattle.kernel_texts.proofs.Keeping.{whole_text}
 use Rattle.kernel_seen.specs.FactSeen.{fact_seen}
 use Rattle.kernel_seen.specs.KeptLines.{line_fact}
 use Rattle.kernel_looks.proofs.FactsSeen.{tells_seen}

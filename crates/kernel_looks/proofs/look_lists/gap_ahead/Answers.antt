@@ -2,7 +2,7 @@ use Rattle.std.proofs.Common.{◌≡◌, ◌+◌, [], List, ap, arith, false, su
 use Rattle.std.specs.Prelude.{◌-◌}
 use Rattle.rules_facts.specs.Fact.{on_list}
 use Rattle.rules_lists.specs.Lists.{list_of}
-use Rattle.kernel_lines.specs.Lines.{fact_text}
+use Rattle.kernel_texts.specs.Lines.{fact_text}
 use Rattle.kernel_seen.specs.FactSeen.{may_tell}
 use Rattle.kernel_looks.specs.Nothings.{list_at}
 use Rattle.kernel_looks.proofs.Stretches.{still_quiet}

@@ -1,6 +1,6 @@
 use Rattle.std.proofs.Common.{◌≡◌, ◌+◌, ◌∷◌, [], ap, arith, subst, sym, ℕ}
-use Rattle.kernel_lines.specs.Rows.{list_text}
-use Rattle.kernel_facts.specs.Kept.{lists_kept}
+use Rattle.kernel_texts.specs.Rows.{list_text}
+use Rattle.kernel_texts.specs.Kept.{lists_kept}
 use Rattle.kernel_looks.specs.Ahead.{past}
 use Rattle.kernel_looks.specs.Desk.{WentOn}
 use Rattle.kernel_looks.specs.declared.desk.Desk.{Desk}

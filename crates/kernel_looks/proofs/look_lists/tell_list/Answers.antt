@@ -1,5 +1,5 @@
-use Rattle.kernel_facts.proofs.Keeping.{whole_text}
-use Rattle.kernel_facts.proofs.Modest.{list_short}
+use Rattle.kernel_texts.proofs.Keeping.{whole_text}
+use Rattle.kernel_texts.proofs.Modest.{list_short}
 use Rattle.kernel_seen.specs.FactSeen.{fact_seen}
 use Rattle.kernel_looks.proofs.FactsSeen.{tells_seen}
 use Rattle.kernel_looks.proofs.Looking.{went_nothing, went_printed}

@@ -1,8 +1,8 @@
 use Rattle.std.proofs.Common.{subst, sym, ℕ}
 use Rattle.rules_facts.specs.Signals.{signal_fact}
-use Rattle.kernel_lines.specs.Lines.{fact_text}
-use Rattle.kernel_lines.specs.Rows.{left_out}
-use Rattle.kernel_facts.specs.Picked.{left_in}
+use Rattle.kernel_texts.specs.Lines.{fact_text}
+use Rattle.kernel_texts.specs.Rows.{left_out}
+use Rattle.kernel_texts.specs.Picked.{left_in}
 use Rattle.kernel_looks.specs.Desk.{WentOn}
 use Rattle.kernel_looks.proofs.NothingTold.{nothing_short, signal_nothing}
 use Rattle.kernel_looks.proofs.Runs.{kept_nothing}

@@ -1,10 +1,10 @@
 use Rattle.std.proofs.Common.{◌≡◌, ◌∙◌, [], ◌∷◌, ℕ, Option, add-one, ap, arith, below_more, false, subst, sym, ◌<◌}
 use Rattle.std.specs.Prelude.{slice_index_or}
 use Rattle.rules_facts.specs.Signals.{signal_fact}
-use Rattle.kernel_lines.specs.Lines.{fact_text}
-use Rattle.kernel_lines.specs.Short.{HasShortText}
-use Rattle.kernel_facts.specs.Kept.{kept_below}
-use Rattle.kernel_facts.specs.Picked.{left_in}
+use Rattle.kernel_texts.specs.Lines.{fact_text}
+use Rattle.kernel_texts.specs.Short.{HasShortText}
+use Rattle.kernel_texts.specs.Kept.{kept_below}
+use Rattle.kernel_texts.specs.Picked.{left_in}
 use Rattle.kernel_looks.specs.Desk.{WentOn}
 use Rattle.kernel_looks.proofs.Looking.{went_both, went_none}
 use Rattle.kernel_looks.proofs.PendingSignals.{signal_silent}

@@ -1,9 +1,9 @@
 use Rattle.std.proofs.Common.{[], ◌∷◌, ◌<◌, ℕ}
 use Rattle.rules_facts.specs.Signals.{signal_fact}
-use Rattle.kernel_lines.specs.Lines.{fact_text}
-use Rattle.kernel_lines.specs.Short.{HasShortText}
-use Rattle.kernel_facts.specs.Kept.{kept_below}
-use Rattle.kernel_facts.specs.Picked.{left_in}
+use Rattle.kernel_texts.specs.Lines.{fact_text}
+use Rattle.kernel_texts.specs.Short.{HasShortText}
+use Rattle.kernel_texts.specs.Kept.{kept_below}
+use Rattle.kernel_texts.specs.Picked.{left_in}
 use Rattle.kernel_seen.specs.FactSeen.{IsMemoryOf}
 use Rattle.kernel_looks.specs.Desk.{WentOn}
 use Rattle.kernel_looks.proofs.look_signals.look_at_signals_in_full.Given as goal

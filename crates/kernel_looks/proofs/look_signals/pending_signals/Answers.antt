@@ -1,7 +1,7 @@
 use Rattle.std.proofs.Common.{◌≡◌, ◌<◌, add-one, false, true}
 use Rattle.std.specs.Prelude.{slice_index_or}
 use Rattle.rules_machine.specs.State.{SignalRecord}
-use Rattle.kernel_facts.proofs.ShortFacts.{all_taken}
+use Rattle.kernel_texts.proofs.ShortFacts.{all_taken}
 use Rattle.kernel_looks.proofs.PendingSignals.{mark_more}
 use Rattle.kernel_looks.proofs.look_signals.pending_signals.Goals as goal
 

@@ -1,7 +1,7 @@
 use Rattle.std.proofs.Common.{◌<◌, length, ℕ}
-use Rattle.kernel_lines.specs.Rows.{thread_fact_of}
-use Rattle.kernel_lines.specs.Short.{HasShortText}
-use Rattle.kernel_lines.specs.declared.rows.ThreadRow.{ThreadRow}
+use Rattle.kernel_texts.specs.Rows.{thread_fact_of}
+use Rattle.kernel_texts.specs.Short.{HasShortText}
+use Rattle.kernel_texts.specs.declared.rows.ThreadRow.{ThreadRow}
 use Rattle.kernel_looks.proofs.BareRows.{each_inner}
 use Rattle.kernel_looks.proofs.Looking.{went_both}
 use Rattle.kernel_looks.proofs.look_threads.look_at_inner_rows_in_full.Goals as goal

@@ -1,6 +1,6 @@
 use Rattle.std.proofs.Common.{◌≡◌, ◌∙◌, ◌+◌, add-one, arith, below_more, subst, ℕ}
-use Rattle.kernel_lines.specs.Rows.{thread_fact_of}
-use Rattle.kernel_lines.specs.Short.{HasShortText}
+use Rattle.kernel_texts.specs.Rows.{thread_fact_of}
+use Rattle.kernel_texts.specs.Short.{HasShortText}
 use Rattle.kernel_looks.specs.Ahead.{past, row_from}
 use Rattle.kernel_looks.specs.Desk.{WentOn}
 use Rattle.kernel_looks.proofs.Looking.{went_both}

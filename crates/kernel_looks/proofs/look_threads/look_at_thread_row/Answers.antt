@@ -1,9 +1,9 @@
 use Rattle.std.proofs.Common.{◌≡◌, ◌+◌, ◌<◌, ◌≤◌, ◌⊎◌, [], ◌∷◌, arith, inl, inr, length, refl, subst, sym, ℕ}
 use Rattle.std.specs.Prelude.{◌-◌}
-use Rattle.kernel_lines.specs.Lines.{fact_text}
-use Rattle.kernel_lines.specs.Rows.{thread_fact_of}
-use Rattle.kernel_lines.specs.Short.{HasShortText}
-use Rattle.kernel_facts.specs.Kept.{thread_row_kept}
+use Rattle.kernel_texts.specs.Lines.{fact_text}
+use Rattle.kernel_texts.specs.Rows.{thread_fact_of}
+use Rattle.kernel_texts.specs.Short.{HasShortText}
+use Rattle.kernel_texts.specs.Kept.{thread_row_kept}
 use Rattle.kernel_looks.specs.Ahead.{past}
 use Rattle.kernel_looks.specs.Desk.{WentOn}
 use Rattle.kernel_looks.specs.declared.desk.Desk.{Desk}

@@ -1,10 +1,10 @@
 use Rattle.std.proofs.Common.{◌++◌, ◌<◌, List, ap, length, refl, subst, ℕ}
-use Rattle.kernel_lines.specs.Rows.{thread_fact_of}
-use Rattle.kernel_lines.specs.Short.{HasShortText}
-use Rattle.kernel_lines.specs.declared.rows.ThreadRow.{ThreadRow}
-use Rattle.kernel_lines.specs.declared.rows.ThreadRow.TheVariants as thread
-use Rattle.kernel_facts.specs.Kept.{thread_row_kept}
-use Rattle.kernel_facts.proofs.ShortFacts.{each_thread_row}
+use Rattle.kernel_texts.specs.Rows.{thread_fact_of}
+use Rattle.kernel_texts.specs.Short.{HasShortText}
+use Rattle.kernel_texts.specs.declared.rows.ThreadRow.{ThreadRow}
+use Rattle.kernel_texts.specs.declared.rows.ThreadRow.TheVariants as thread
+use Rattle.kernel_texts.specs.Kept.{thread_row_kept}
+use Rattle.kernel_texts.proofs.ShortFacts.{each_thread_row}
 use Rattle.kernel_looks.specs.Desk.{WentOn}
 use Rattle.kernel_looks.proofs.BareRows.{four_behind}
 use Rattle.kernel_looks.proofs.Looking.{went_both}

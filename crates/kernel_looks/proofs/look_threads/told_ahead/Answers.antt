@@ -1,5 +1,5 @@
 use Rattle.std.proofs.Common.{below_more, ◌+◌, ℕ}
-use Rattle.kernel_lines.specs.Rows.{thread_fact_of}
+use Rattle.kernel_texts.specs.Rows.{thread_fact_of}
 use Rattle.kernel_looks.specs.Ahead.{IsToldAt}
 use Rattle.kernel_looks.proofs.look_threads.told_ahead.Goals as goal
 

@@ -1,5 +1,5 @@
 use Rattle.std.proofs.Common.{◌≡◌, arith, below_more, length, ℕ}
-use Rattle.kernel_lines.specs.Rows.{thread_fact_of}
+use Rattle.kernel_texts.specs.Rows.{thread_fact_of}
 use Rattle.kernel_looks.specs.Nothing.{TellsNothing}
 use Rattle.kernel_looks.proofs.nothing.are_bare_inside.Goals as goal
 

@@ -1,6 +1,6 @@
 use Rattle.std.proofs.Common.{ap, arith, length, subst, sym, ◌≡◌, ◌∙◌}
 use Rattle.rules_facts.specs.Threads.{inner_bodies, planned}
-use Rattle.kernel_lines.specs.declared.rows.ThreadRow.{ThreadRow}
+use Rattle.kernel_texts.specs.declared.rows.ThreadRow.{ThreadRow}
 use Rattle.kernel_looks.specs.Nothing.{IsBare}
 use Rattle.kernel_looks.proofs.NothingTold.{bare_cancelability, bare_cleanups, bare_frames, bare_mask, bare_pending, no_members}
 use Rattle.kernel_looks.proofs.nothing.is_bare.Goals as goal

@@ -1,4 +1,4 @@
-use Rattle.kernel_lines.specs.declared.rows.ThreadRow.{ThreadRow}
+use Rattle.kernel_texts.specs.declared.rows.ThreadRow.{ThreadRow}
 use Rattle.kernel_looks.specs.Nothing.{IsBare}
 use Rattle.kernel_looks.proofs.BareRows.{each_inner}
 use Rattle.kernel_looks.proofs.nothing.is_bare_in_each.Goals as goal

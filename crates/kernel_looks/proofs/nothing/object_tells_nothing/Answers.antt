@@ -1,7 +1,7 @@
 use Rattle.std.proofs.Common.{subst, sym}
 use Rattle.words_script.specs.declared.name_kind.NameKind.TheVariants as kind
-use Rattle.kernel_lines.specs.Rows.{object_facts}
-use Rattle.kernel_lines.specs.declared.rows.ObjectRow.{ObjectRow}
+use Rattle.kernel_texts.specs.Rows.{object_facts}
+use Rattle.kernel_texts.specs.declared.rows.ObjectRow.{ObjectRow}
 use Rattle.kernel_looks.specs.Nothing.{TellNothing}
 use Rattle.kernel_looks.proofs.NothingTold.{nobody_for}
 use Rattle.kernel_looks.proofs.nothing.object_tells_nothing.Goals as goal

@@ -1,5 +1,5 @@
 use Rattle.std.proofs.Common.{Bool, [], subst, sym, ◌≡◌}
-use Rattle.kernel_facts.specs.Kept.{waiters_text}
+use Rattle.kernel_texts.specs.Kept.{waiters_text}
 use Rattle.kernel_looks.proofs.NothingTold.{nobody_receives, nobody_sends}
 use Rattle.kernel_looks.proofs.nothing.queue_tells_nothing.Goals as goal
 

@@ -1,5 +1,5 @@
 use Rattle.std.proofs.Common.{ap, subst, sym, ◌∙◌}
-use Rattle.kernel_facts.specs.Subjects.{AreSubjects}
+use Rattle.kernel_texts.specs.Subjects.{AreSubjects}
 use Rattle.parts_texts.specs.Texts.{Told}
 use Rattle.kernel_leaps.proofs.TellingRooms.{begun_ready, cleared_rooms, kept_rooms, kept_texts}
 use Rattle.kernel_leaps.proofs.fact_texts.FactTexts.begin.Goals as goal

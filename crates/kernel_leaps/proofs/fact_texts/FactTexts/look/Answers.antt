@@ -1,6 +1,6 @@
 use Rattle.std.proofs.Common.{ap, sym, ◌∙◌}
 use Rattle.parts_texts.specs.Texts.{Next}
-use Rattle.kernel_facts.specs.Changed.{changed_lines}
+use Rattle.kernel_texts.specs.Changed.{changed_lines}
 use Rattle.kernel_leaps.specs.declared.fact_texts.FactTexts.{FactTexts}
 use Rattle.kernel_leaps.proofs.Unlooked.{no_lines}
 use Rattle.kernel_leaps.proofs.fact_texts.FactTexts.look.Goals.{then-is_idle+then-self, else-is_idle, else-is_idle-via-then-is_idle+else-self, else-is_idle-via-else-is_idle}

@@ -1,8 +1,0 @@
-use Rattle.std.proofs.Common.{ℕ}
-use Rattle.kernel_lines.specs.Rows.{object_facts}
-use Rattle.script_printer.specs.Puts.{Puts}
-use Rattle.kernel_lines.specs.Lines.{facts_text, texts_below}
-use Rattle.kernel_facts.proofs.rows.put_object_row.Given as goal
-
-abbrev pub invariant-loop-number : goal.invariant-loop-number
-invariant-loop-number g l = Puts g.K.Sink.text g.K.Sink.faults l.initial.out l.out (texts_below (λ (k : ℕ). facts_text l.decls (object_facts l.row l.parts.machine k)) l.number)

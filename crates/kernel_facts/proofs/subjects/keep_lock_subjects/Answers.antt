@@ -1,7 +1,0 @@
-use Rattle.kernel_facts.proofs.Keeping.{kept_both}
-use Rattle.kernel_facts.proofs.subjects.keep_lock_subjects.Goals as goal
-
-pub returns : goal.returns
-returns c =
-    kept_both _ _ _ _ _ _ _ _ (kept_both _ _ _ _ _ _ _ _ (kept_both _ _ _ _ _ _ _ _ (kept_both _ _ _ _ _ _ _ _
-    c.keep_object_row.ensures c.keep_object_row-2.ensures) c.keep_object_row-3.ensures) c.keep_object_row-4.ensures) c.keep_object_row-5.ensures

@@ -1,6 +1,0 @@
-use Rattle.kernel_facts.specs.Kept.{KeptIn}
-use Rattle.kernel_facts.specs.Subjects.{named_row}
-use Rattle.kernel_facts.proofs.subjects.keep_object_row.Given as goal
-
-abbrev pub invariant-loop-number : goal.invariant-loop-number
-invariant-loop-number l = KeptIn l.initial.next l.next l.initial.texts l.texts (named_row l.decls l.keyword l.of l.number)

@@ -1,5 +1,0 @@
-use Rattle.kernel_facts.proofs.Keeping.{kept_printed}
-use Rattle.kernel_facts.proofs.subjects.keep_words.Goals as goal
-
-pub returns : goal.returns
-returns c = kept_printed _ _ _ _ c.clear.ensures _ _ _ c.print_words-failed.ensures c.keep.ensures

@@ -1,0 +1,10 @@
+pub mod Lines
+pub mod Rows
+pub mod Modest
+pub mod Short
+pub mod Numbered
+pub mod Picked
+pub mod Kept
+pub mod Changed
+pub mod Subjects
+pub mod Rooms
