@@ -125,7 +125,19 @@ impl Waits {
         let waiter = Candidate::of(t.get() as u32, place);
         let alike = self.alike && fits(&self.links, &self.places, list, place);
         stand(&mut self.links, &self.places, list, waiter);
-        self.places[t.get() as usize] = Some(*place);
+        // field by field: a copy would read at once what was just written in pieces, and wait for these
+        let Place {
+            object,
+            priority,
+            released,
+            serial,
+        } = *place;
+        self.places[t.get() as usize] = Some(Place {
+            object,
+            priority,
+            released,
+            serial,
+        });
         self.alike = alike;
     }
 
