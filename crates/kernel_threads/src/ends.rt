@@ -13,11 +13,12 @@ pub enum TickEnd {
     Nothing,
 }
 
-/// What a refill gave, the capacity after it, and whether it gave the high priority back.
+/// The capacity after a refill, what it gave, and whether it gave the high priority back. The line of a refill has the first two in the
+/// other order, so that they are not copied to it as one piece, which would wait for the stores of both.
 #[derive(Clone, Copy)]
 pub struct Refilled {
-    pub amount: u64,
     pub capacity: u64,
+    pub amount: u64,
     pub regains_high: bool,
 }
 
