@@ -1,4 +1,3 @@
 pub mod Safe
-pub mod Flattens
 pub mod Told
 pub mod Packs

@@ -3,15 +3,12 @@ ghost use Rattle.std.specs.Prelude.{◌≡◌, ℕ, List, ◌+◌, ◌≤◌, �
 ghost use Rattle.words_script.specs.Block.{Block};
 ghost use Rattle.words_script.specs.declared.call.Call.{Call};
 ghost use Rattle.words_script.specs.declared.call.Call.TheVariants.{Yield};
-ghost use Rattle.words_script.specs.Tree.{step_count};
 ghost use Rattle.rules_bodies.specs.Next.{Place, body_start, register_limit};
-ghost use Rattle.rules_bodies.specs.Flat.{IsFlattenable, bodies_of, body_list, flat, flat_form, with_decl};
 ghost use Rattle.rules_bodies.specs.Fetch.{carried_out, innermost, most_skipped, pass_ended, started, fetched};
 ghost use Rattle.script_code.specs.Fetched.{call_of, told, unit_of};
 ghost use Rattle.script_code.specs.Packed.{unpacked};
 ghost use Rattle.rules_bodies.specs.Stands.{IsBody, Stands, IsPlaced, Fetches};
 
-use crate::flatten::flatten;
 use crate::next::{capped, holds};
 use crate::ops::{Ops, Packed};
 use crate::{CallPlace, Cursor, Fetched, Units};
@@ -19,7 +16,7 @@ use arrayvec::ArrayVec;
 use std::alloc::{AllocError, Global};
 use std::marker::Model;
 use words_numbers::{ObjId, Res, Tid};
-use words_script::{Body, Call, Decl, Kind, Script};
+use words_script::Call;
 
 /// The bodies of a script as flat code. Contracts see it as the operations of each body, and the numbers of the bodies of the
 /// threads, handlers and cleanup handlers.
@@ -47,69 +44,52 @@ impl Model for Code {
 }
 
 impl Code {
-    /// The flat code of a script, whose bodies are numbered in the order of their declarations.
-    pub fn open(alloc: Global, script: &Script) -> Result<Code, AllocError>
-        requires { IsFlattenable (bodies_of script.now.decls).all }
-        ensures flat_form { IfOk result (λ code. code ≡ flat_form (bodies_of script.now.decls)) }
-
-        // Each body of the script is there under its number.
-        ensures bodies { IfOk result (λ code. (n : ℕ) → (body : Block)
-            → slice_get (bodies_of script.now.decls).all n ≡ Some body → IsBody code n body) }
+    /// Without a body.
+    pub fn new(alloc: Global) -> Code
+        ensures { result ≡ record { all = []; threads = []; handlers = []; cleanups = [] } }
     {
-        let mut code = Code {
+        Code {
             bodies: Vec::new(alloc),
             threads: Vec::new(alloc),
             handlers: Vec::new(alloc),
             cleanups: Vec::new(alloc),
-        };
-        for decl in script.decls.items() {
-            code.declare(alloc, decl)?;
-        }
-        Ok(code)
-    }
-
-    // Takes the body of a declaration, where it has one.
-    fn declare(&mut self, alloc: Global, decl: &Decl) -> Result<(), AllocError>
-        requires room { length self.old.all + length (body_list decl.now) ≤ 2 ^ 16 }
-        requires short { All (λ body. step_count body ≤ 65536) (body_list decl.now) }
-        ensures { OnOk result (self.new ≡ with_decl (flat 0) decl.now self.old) }
-    {
-        match decl {
-            Decl::Named(_, kind) => match kind {
-                Kind::Thread { body, .. } => {
-                    let number = self.add(alloc, body)?;
-                    self.threads.push(number)?;
-                    Ok(())
-                }
-                Kind::Handler { body } => {
-                    let number = self.add(alloc, body)?;
-                    self.handlers.push(number)?;
-                    Ok(())
-                }
-                Kind::Cleanup { body } => {
-                    let number = self.add(alloc, body)?;
-                    self.cleanups.push(number)?;
-                    Ok(())
-                }
-                _ => Ok(()),
-            },
-            Decl::Action(..) => Ok(()),
         }
     }
 
-    // Takes a body and gives its number.
-    fn add(&mut self, alloc: Global, body: &Body) -> Result<u16, AllocError>
-        requires room { length self.old.all < 2 ^ 16 }
-        requires short { step_count body.now ≤ 65536 }
+    /// Takes the operations of a body, and gives its number.
+    pub fn add(&mut self, ops: Ops) -> Result<u16, AllocError>
+        requires { length self.old.all < 2 ^ 16 }
         ensures number { IfOk result (λ number. number ≡ length self.old.all) }
-        ensures body { OnOk result (self.new ≡ record self.old { all = self.old.all ++ flat 0 body.now ∷ [] }) }
+        ensures body { OnOk result (self.new ≡ record self.old { all = self.old.all ++ ops ∷ [] }) }
     {
         let number = self.bodies.len() as u16;
-        let mut ops = Ops::new(alloc);
-        flatten(body, &mut ops)?;
         self.bodies.reserve(1)?;
         self.bodies.push_reserved(ops);
         Ok(number)
+    }
+
+    /// The next thread has the body of that number.
+    pub fn add_thread(&mut self, body: u16) -> Result<(), AllocError>
+        ensures { OnOk result (self.new ≡ record self.old { threads = self.old.threads ++ body ∷ [] }) }
+    {
+        self.threads.push(body)?;
+        Ok(())
+    }
+
+    /// The next handler has the body of that number.
+    pub fn add_handler(&mut self, body: u16) -> Result<(), AllocError>
+        ensures { OnOk result (self.new ≡ record self.old { handlers = self.old.handlers ++ body ∷ [] }) }
+    {
+        self.handlers.push(body)?;
+        Ok(())
+    }
+
+    /// The next cleanup handler has the body of that number.
+    pub fn add_cleanup(&mut self, body: u16) -> Result<(), AllocError>
+        ensures { OnOk result (self.new ≡ record self.old { cleanups = self.old.cleanups ++ body ∷ [] }) }
+    {
+        self.cleanups.push(body)?;
+        Ok(())
     }
 
     /// The number of a thread's body.

@@ -6,7 +6,6 @@
 
 mod code;
 mod fetched;
-mod flatten;
 mod next;
 mod ops;
 mod short_call;
@@ -14,6 +13,7 @@ mod units;
 
 pub use code::Code;
 pub use fetched::{CallPlace, Fetched};
+pub use ops::{Ops, Packed};
 pub use rules_bodies::{Cursor, Op, Unit};
 pub use short_call::ShortCall;
 pub use units::Units;

@@ -14,7 +14,7 @@ use words_script::Call;
 /// An operation in 16 bytes. A short call is kept whole; any other, which takes 48 bytes by itself, is told by its number in the table of
 /// its body.
 #[derive(Clone, Copy)]
-pub(crate) enum Packed {
+pub enum Packed {
     Run(u64),
     Make(usize),
     Short(ShortCall),
@@ -29,7 +29,7 @@ pub(crate) enum Packed {
 
 /// The operations of a body. Contracts see them as a list.
 #[derive(Drop)]
-pub(crate) struct Ops {
+pub struct Ops {
     packed: Vec<Packed>,
     calls: Vec<Call>,
 }
@@ -48,7 +48,8 @@ impl Model for Ops {
 }
 
 impl Ops {
-    pub(crate) fn new(alloc: Global) -> Ops
+    /// None.
+    pub fn new(alloc: Global) -> Ops
         ensures { result ≡ [] }
     {
         Ops {
@@ -57,15 +58,16 @@ impl Ops {
         }
     }
 
-    pub(crate) fn len(&self) -> usize
+    /// How many they are.
+    pub fn len(&self) -> usize
         ensures { result ≡ length self.now }
     {
         self.packed.len()
     }
 
-    // Appends an operation that is no call.
+    /// Appends an operation that is no call.
     #[inline(always)]
-    pub(crate) fn push(&mut self, packed: Packed) -> Result<(), AllocError>
+    pub fn push(&mut self, packed: Packed) -> Result<(), AllocError>
         requires { IsIn [] packed }
         ensures { OnOk result (self.new ≡ self.old ++ unpacked [] packed ∷ []) }
     {
@@ -73,9 +75,9 @@ impl Ops {
         Ok(())
     }
 
-    // Appends a call.
+    /// Appends a call.
     #[inline(always)]
-    pub(crate) fn push_call(&mut self, call: &Call) -> Result<(), AllocError>
+    pub fn push_call(&mut self, call: &Call) -> Result<(), AllocError>
         ensures { OnOk result (self.new ≡ self.old ++ Make call.now ∷ []) }
     {
         if let Some(short) = ShortCall::of(call) {
@@ -87,8 +89,8 @@ impl Ops {
         Ok(())
     }
 
-    // Puts a test in the place of an operation.
-    pub(crate) fn set_test(&mut self, at: usize, res: Res, equal: bool, skip: u32)
+    /// Puts a test in the place of an operation.
+    pub fn set_test(&mut self, at: usize, res: Res, equal: bool, skip: u32)
         requires { at < length self.old }
         ensures { self.new ≡ slice_set self.old at (Test res equal skip) }
     {

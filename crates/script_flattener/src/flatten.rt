@@ -3,7 +3,7 @@ ghost use Rattle.std.specs.Prelude.{◌≡◌, ◌+◌, ◌<◌, ◌^◌, [], �
 ghost use Rattle.words_script.specs.Tree.{block_of};
 ghost use Rattle.rules_bodies.specs.Flat.{flat, op_number};
 
-use crate::ops::{Ops, Packed};
+use script_code::{Ops, Packed};
 use std::alloc::AllocError;
 use words_script::{Body, Call, Step};
 

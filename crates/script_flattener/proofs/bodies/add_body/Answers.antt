@@ -1,6 +1,6 @@
 use Rattle.std.proofs.Common.{arith, length, ap}
 use Rattle.script_code.proofs.Safe.{op_number-step_count}
-use Rattle.script_code.proofs.code.Code.add.Goals as goal
+use Rattle.script_flattener.proofs.bodies.add_body.Goals as goal
 
 pub flatten-requires : goal.flatten-requires
 flatten-requires c =

@@ -4,8 +4,8 @@ use Rattle.rules_bodies.specs.declared.op.Op.{Op}
 use Rattle.rules_bodies.specs.declared.op.Op.TheVariants as op
 use Rattle.rules_bodies.specs.Flat.{flat, op_number}
 use Rattle.rules_bodies.proofs.Lands.{length-flat}
-use Rattle.script_code.proofs.Flattens.{room_for, flattens_more, test_done, deep-at}
-use Rattle.script_code.proofs.flatten.+flatten.Goals as goal
+use Rattle.script_flattener.proofs.Flattens.{room_for, flattens_more, test_done, deep-at}
+use Rattle.script_flattener.proofs.flatten.+flatten.Goals as goal
 
 pub flatten-flatten_step-requires : goal.flatten-flatten_step-requires
 flatten-flatten_step-requires t c =
