@@ -10,7 +10,7 @@ use Rattle.rules_machine.proofs.Behind.{AddsBehind}
 use Rattle.rules_machine.proofs.BehindCalls.{notifies_behind}
 use Rattle.kernel_state.specs.Kernel.{Kernel, after, told, turn}
 use Rattle.kernel_state.proofs.Turns.{then_state, then_told}
-use Rattle.calls_signals.proofs.Same.{same_after, same_told}
+use Rattle.calls_generation.proofs.Same.{same_after, same_told}
 
 module _ (q : ℕ) (x : Message) (g : Turn Cursor → Turn Cursor) (adds : AddsBehind g) (fired : Option Registration) (k l m n : Kernel) (is : fired ≡ fired_by_message k.machine q)
     (put : l ≡ after (changes_queue q (with_message x)) k) (done : m ≡ after g l) where

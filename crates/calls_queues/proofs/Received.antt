@@ -21,8 +21,8 @@ use Rattle.kernel_queues.specs.Queues.{next_value, without_next, without_one}
 use Rattle.kernel_state.specs.Kernel.{Kernel, after, told, turn}
 use Rattle.kernel_state.specs.Pending.{SignalsFit}
 use Rattle.kernel_state.specs.Messages.{waiting_message}
-use Rattle.calls_signals.proofs.Same.{same_after, same_told}
-use Rattle.calls_signals.proofs.Sent.{returned_blocked}
+use Rattle.calls_generation.proofs.Same.{same_after, same_told}
+use Rattle.calls_generation.proofs.Returned.{returned_blocked}
 use Rattle.calls_queues.specs.Receives.{hands_out, takes_over_from}
 
 -- ---- the message of a sender

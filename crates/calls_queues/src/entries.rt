@@ -13,6 +13,7 @@ ghost use Rattle.calls_queues.specs.Premises.{CanEnter};
 use crate::notification::{fired_by_message, notify};
 use kernel_state::{Caller, Parts};
 use kernel_threads::Message;
+use kernel_wakes::wake;
 use parts_io::Sink;
 use parts_tracer::Tracer;
 use words_numbers::{ObjId, Res, Tid};
@@ -50,6 +51,6 @@ pub(crate) fn enter_and_wake<K: Sink>(
 {
     let fired = fired_by_message(p, q);
     p.put_message(q, message.priority, message.value);
-    p.wake(sender, Res::Zero, 0, out);
+    wake(p, sender, Res::Zero, 0, out);
     notify(p, &fired, q, out);
 }

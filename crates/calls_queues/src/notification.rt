@@ -10,7 +10,7 @@ ghost use Rattle.kernel_state.specs.Does.{Does};
 ghost use Rattle.kernel_state.specs.Caller.{caller};
 ghost use Rattle.calls_queues.specs.Premises.{CanNotify};
 
-use calls_signals::generate;
+use calls_generation::generate;
 use kernel_queues::Registration;
 use kernel_signals::SignalRecord;
 use kernel_state::{Caller, Parts};

@@ -16,6 +16,7 @@ use crate::blocking::block_unless_nonblock;
 use crate::entries::enter_and_return;
 use kernel_state::{Caller, Parts};
 use kernel_threads::{Message, Wait};
+use kernel_wakes::wake;
 use parts_io::Sink;
 use parts_tracer::Tracer;
 use words_numbers::{ObjId, Res, Tick, Tid};
@@ -53,7 +54,7 @@ fn hand_to_receiver<K: Sink>(
     ensures { Does K.text K.faults (λ s. s ▷ returns (caller by.now) res.Zero 0 ▷ wakes receiver res.Zero value) p.old p.new out.old out.new }
 {
     p.returns(by, Res::Zero, 0, out);
-    p.wake(receiver, Res::Zero, value, out);
+    wake(p, receiver, Res::Zero, value, out);
 }
 
 // Nobody waits to receive: the message enters where there is room, and else its sender waits.

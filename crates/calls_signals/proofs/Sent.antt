@@ -1,32 +1,19 @@
 -- How a signal that is sent comes out.
-use Rattle.std.proofs.Common.{◌≡◌, ◌<◌, ◌∙◌, ℕ, Bool, true, false, List, length, None, Option, Some, ap, refl, subst, sym}
+use Rattle.std.proofs.Common.{◌≡◌, ◌∙◌, ℕ, Bool, true, false, List, None, Option, Some, ap, refl, sym}
 use Rattle.std.specs.Prelude.{if◌then◌else◌, is_none, not, option_map, ◌&&◌}
-use Rattle.words_numbers.specs.declared.res.Res.{Res}
 use Rattle.words_numbers.specs.declared.res.Res.TheVariants as res
 use Rattle.parts_tracer.specs.Tells.{Tells}
 use Rattle.parts_tracer.specs.declared.tracer.Tracer.{Tracer}
 use Rattle.rules_bodies.specs.declared.cursor.Cursor.{Cursor}
 use Rattle.rules_machine.specs.Signals.{acceptor, becomes_pending, delivers, generates, is_accepted_or_pends, has_no_room, is_full, is_ignore, sends_signal}
-use Rattle.rules_machine.specs.State.{Machine, SignalRecord, Thread}
-use Rattle.rules_machine.specs.Threads.{action_of, is_blocked, no_thread, thread_at, thread_in}
+use Rattle.rules_machine.specs.State.{SignalRecord}
+use Rattle.rules_machine.specs.Threads.{action_of}
 use Rattle.rules_machine.specs.Turns.{Caller, Turn, answered, returns, ◌▷◌}
 use Rattle.rules_machine.specs.Waiters.{Waiter}
 use Rattle.rules_machine.specs.Waking.{wakes}
-use Rattle.rules_machine.proofs.Reading.{changed-keeps}
 use Rattle.rules_moves.proofs.Calls.Answers.{acceptor_kept}
-use Rattle.kernel_threads.specs.Unused.{IsUnused}
-use Rattle.kernel_state.specs.Caught.{HasRoomToPend}
 use Rattle.kernel_state.specs.Kernel.{Kernel, after, told, turn}
-use Rattle.kernel_state.specs.Callers.{AllRest}
-use Rattle.calls_signals.proofs.Same.{same_after, same_told}
-use Rattle.calls_signals.proofs.Visited.{delivers_alike}
-
-thread_of : (o : Option Waiter) → option_map (λ (w : Waiter). w.thread) o ≡ None → o ≡ None
-thread_of None e = refl
-thread_of (Some w) e = absurd cc
-
-pub nobody_accepts : (m : Machine Cursor) (r : SignalRecord) (o : Option ℕ) → o ≡ option_map (λ (w : Waiter). w.thread) (acceptor m r) → o ≡ None → acceptor m r ≡ None
-nobody_accepts m r o is none = thread_of (acceptor m r) (sym is ∙ none)
+use Rattle.calls_generation.proofs.Same.{same_after, same_told}
 
 module _ (by : Caller) (r : SignalRecord) (s : Turn Cursor) where
   -- who accepts it is the same once the call has returned
@@ -103,32 +90,3 @@ module _ {K : Type 0} (text : K → Option (List ℕ)) (faults : K → ℕ) (by 
       Tells text faults k.names a b (told (λ (s : Turn Cursor). s ▷ returns by res.Zero 0 ▷ becomes_pending r) k) → Tells text faults k.names a b (told (sends_signal by r) k)
   told_pending c full is off filled not_on none h =
       same_told text faults (sends_signal by r) (λ s. s ▷ returns by res.Zero 0 ▷ becomes_pending r) k a b (sent_pending by r (turn k) none (sym is ∙ off) (sym filled ∙ not_on)) h
-
--- ---- what stays once the call has returned
-
-pub returned_pends : (by : Caller) (x : Res) (value : ℕ) (k l : Kernel) → l ≡ after (returns by x value) k → HasRoomToPend k.machine → HasRoomToPend l.machine
-returned_pends by x value k l e h = rw e (record { few = h.few; youngest = h.youngest })
-
-pub returned_blocked : (by : Caller) (x : Res) (value u : ℕ) (k l : Kernel) → l ≡ after (returns by x value) k → is_blocked (thread_at k.machine u).status ≡ true → is_blocked (thread_at l.machine u).status ≡ true
-returned_blocked by x value u k l e h =
-    rw e (ap is_blocked (changed-keeps no_thread by.thread u (answered x value) (λ th. th.status) (λ th. refl) k.machine.threads) ∙ h)
-
-pub returned_rests : (by : Caller) (x : Res) (value : ℕ) (k l : Kernel) → l ≡ after (returns by x value) k → AllRest k.machine → AllRest l.machine
-returned_rests by x value k l e h = rw e all
-  where
-    all : AllRest (returns by x value (turn k)).machine
-    all u on =
-        let status = changed-keeps no_thread by.thread u (answered x value) (λ th. th.status) (λ th. refl) k.machine.threads in
-        let server = changed-keeps no_thread by.thread u (answered x value) (λ th. th.server) (λ th. refl) k.machine.threads in
-        subst IsUnused (sym server) (h u (sym (ap is_blocked status) ∙ on))
-
--- and once the record was delivered
-pub delivered_unused : (t u : ℕ) (r : SignalRecord) (k l : Kernel) → l ≡ after (delivers t r) k → IsUnused (thread_at k.machine u).server → IsUnused (thread_at l.machine u).server
-delivered_unused t u r k l e h =
-    rw e (subst (λ (ths : List (Thread Cursor)). IsUnused (thread_in ths u).server) (sym (delivers_alike t r (turn k)).threads) h)
-
-pub delivered_room : (t : ℕ) (r : SignalRecord) (k l : Kernel) → l ≡ after (delivers t r) k → length k.direct < 512 → length l.direct < 512
-delivered_room t r k l e h = rw (e, (delivers_alike t r (turn k)).direct) h
-
-pub delivered_now : (t : ℕ) (r : SignalRecord) (k l : Kernel) → l ≡ after (delivers t r) k → l.machine.now ≡ k.machine.now
-delivered_now t r k l e = ap (λ (x : Kernel). x.machine.now) e ∙ (delivers_alike t r (turn k)).now

@@ -1,11 +1,10 @@
 //! Sending signals: `kill`, `pthread_kill` and `sigqueue`.
-ghost use Rattle.std.specs.Prelude.{◌≡◌, ◌<◌, ◌^◌, IfSome, None, Some, false, length, option_map, true};
+ghost use Rattle.std.specs.Prelude.{◌≡◌, ◌<◌, ◌^◌, IfSome, None, Some, false, length, true};
 ghost use Rattle.words_numbers.specs.declared.res.Res.TheVariants as res;
 ghost use Rattle.rules_machine.specs.Cancellation.{on_live};
-ghost use Rattle.rules_machine.specs.Signals.{acceptor, becomes_pending, delivers, is_full, is_ignore, record_of_kill, record_of_sigqueue, sends_signal};
-ghost use Rattle.rules_machine.specs.Threads.{action_of, is_blocked, thread_at};
+ghost use Rattle.rules_machine.specs.Signals.{acceptor, becomes_pending, delivers, is_full, record_of_kill, record_of_sigqueue, sends_signal};
+ghost use Rattle.rules_machine.specs.Threads.{is_blocked, thread_at};
 ghost use Rattle.rules_machine.specs.Turns.{returns, ◌▷◌};
-ghost use Rattle.rules_machine.specs.Waiters.{Waiter};
 ghost use Rattle.rules_machine.specs.Waking.{wakes};
 ghost use Rattle.kernel_state.specs.Caught.{HasRoomToPend};
 ghost use Rattle.kernel_state.specs.Does.{Does};
@@ -13,46 +12,15 @@ ghost use Rattle.kernel_state.specs.Caller.{caller};
 ghost use Rattle.kernel_state.specs.Callers.{CanWake};
 ghost use Rattle.calls_signals.specs.Premises.{CanSend};
 
-use crate::delivery::deliver;
+use calls_generation::{accept, is_ignored};
 use kernel_signals::SignalRecord;
 use kernel_state::{Caller, Parts};
 use parts_io::Sink;
 use parts_tracer::Tracer;
-use rules_machine::SigAction;
 use words_numbers::{Res, Tid};
 
-// Whether an action is to ignore its signal.
-fn is_ignore(action: &SigAction) -> bool
-    ensures { result ≡ is_ignore action.now }
-{
-    match action {
-        SigAction::Ignore => true,
-        _ => false,
-    }
-}
-
-// Whether the record's signal is ignored.
-pub(crate) fn is_ignored(p: &Parts, r: &SignalRecord) -> bool
-    requires { r.now.signal < 32 }
-    ensures { result ≡ is_ignore (action_of p.now.machine r.now.signal) }
-{
-    is_ignore(&p.action(r.signal()))
-}
-
-// A thread that waits for the signal accepts it.
-#[tactic(auto, using(crate::proofs::Sent::delivered_unused, crate::proofs::Sent::delivered_room, crate::proofs::Sent::delivered_now))]
-pub(crate) fn accept<K: Sink>(p: &mut Parts, w: Tid, r: &SignalRecord, out: &mut Tracer<'_, K>)
-    requires known { w < length p.old.names }
-    requires can { CanWake p.old }
-    requires blocked { is_blocked (thread_at p.old.machine w).status ≡ true }
-    ensures { Does K.text K.faults (λ s. s ▷ delivers w r.now ▷ wakes w res.Zero r.now.signal) p.old p.new out.old out.new }
-{
-    deliver(p, w, r, out);
-    p.wake(w, Res::Zero, r.signal() as u64, out);
-}
-
 // The call returns, and a thread that waits for the signal accepts it.
-#[tactic(auto, using(crate::proofs::Sent::returned_blocked, crate::proofs::Sent::returned_rests))]
+#[tactic(auto, using(calls_generation::proofs::Returned::returned_blocked, calls_generation::proofs::Returned::returned_rests))]
 fn send_to_acceptor<K: Sink>(
     p: &mut Parts,
     by: &Caller<'_>,
@@ -71,7 +39,7 @@ fn send_to_acceptor<K: Sink>(
 }
 
 // The call returns, and the signal becomes pending.
-#[tactic(auto, using(crate::proofs::Sent::returned_pends))]
+#[tactic(auto, using(calls_generation::proofs::Returned::returned_pends))]
 fn send_pending<K: Sink>(p: &mut Parts, by: &Caller<'_>, r: &SignalRecord, out: &mut Tracer<'_, K>)
     requires known { by.now.thread < length p.old.names }
     requires signal { r.now.signal < 32 }
@@ -109,7 +77,7 @@ fn send_unaccepted<K: Sink>(
 
 // The record, which a call of the thread generates, is accepted by a thread that waits for it, or is ignored, or becomes pending,
 // unless there is no room.
-#[tactic(auto, using(crate::proofs::Sent::as_sent_to, crate::proofs::Sent::told_sent_to, crate::proofs::Sent::nobody_accepts))]
+#[tactic(auto, using(crate::proofs::Sent::as_sent_to, crate::proofs::Sent::told_sent_to, calls_generation::proofs::Generated::nobody_accepts))]
 fn send<K: Sink>(p: &mut Parts, by: &Caller<'_>, r: &SignalRecord, out: &mut Tracer<'_, K>)
     requires known { by.now.thread < length p.old.names }
     requires signal { r.now.signal < 32 }

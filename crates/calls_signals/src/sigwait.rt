@@ -9,7 +9,7 @@ ghost use Rattle.kernel_state.specs.Does.{Does};
 ghost use Rattle.kernel_state.specs.Caller.{caller};
 ghost use Rattle.kernel_state.specs.Callers.{CanBlock};
 
-use crate::delivery::deliver;
+use calls_generation::deliver;
 use kernel_signals::SignalRecord;
 use kernel_state::{Caller, Parts};
 use kernel_threads::Wait;

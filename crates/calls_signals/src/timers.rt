@@ -1,17 +1,12 @@
-//! Interval timers: setting and reading them, and their expiries.
+//! Interval timers: setting and reading them.
 ghost use Rattle.std.specs.Prelude.{◌≡◌, ◌≤◌, ◌<◌, ◌+◌, ◌*◌, ◌^◌, length};
-ghost use Rattle.rules_machine.specs.Signals.{generates};
 ghost use Rattle.rules_machine.specs.Threads.{timer_at};
-ghost use Rattle.rules_machine.specs.Timers.{expires, first_expiry, reads_overrun, reads_timer, record_of_timer, sets_timer, signals_expiry, timer_moment};
+ghost use Rattle.rules_machine.specs.Timers.{first_expiry, reads_overrun, reads_timer, sets_timer, timer_moment};
 ghost use Rattle.kernel_threads.specs.RealDues.{real_due_if};
-ghost use Rattle.kernel_state.specs.Kernel.{after};
 ghost use Rattle.kernel_state.specs.RealTimes.{ComesModestly};
 ghost use Rattle.kernel_state.specs.Does.{Does};
 ghost use Rattle.kernel_state.specs.Caller.{caller};
-ghost use Rattle.kernel_state.specs.Pending.{SignalsFit};
-ghost use Rattle.calls_signals.specs.Premises.{CanExpire, CanGenerate};
 
-use crate::generation::generate;
 use kernel_state::{Caller, Parts};
 use parts_io::Sink;
 use parts_tracer::Tracer;
@@ -80,42 +75,4 @@ pub fn timer_getoverrun<K: Sink>(p: &mut Parts, by: &Caller<'_>, k: ObjId, out: 
 {
     let overrun = p.timer(k).overrun();
     p.returns(by, Res::Zero, overrun as u64, out);
-}
-
-// The signal of an expiry is generated.
-#[tactic(auto, using(crate::proofs::Expired::has_signal))]
-fn generate_expiry<K: Sink>(p: &mut Parts, k: ObjId, out: &mut Tracer<'_, K>)
-    requires timer { k < length p.old.machine.timers }
-    requires can { CanGenerate p.old }
-    requires signals { SignalsFit p.old.machine }
-    ensures { Does K.text K.faults (generates (record_of_timer k (timer_at p.old.machine k))) p.old p.new out.old out.new }
-{
-    let r = p.timer_record(k);
-    generate(p, &r, out);
-}
-
-// Where a record of the timer is pending, that is one overrun more; else its signal is generated.
-#[tactic(auto, using(crate::proofs::Expired::as_overrun, crate::proofs::Expired::as_generated, crate::proofs::Expired::told_overrun, crate::proofs::Expired::told_generated, crate::proofs::Expired::has_room))]
-fn signal_expiry<K: Sink>(p: &mut Parts, k: ObjId, out: &mut Tracer<'_, K>)
-    requires timer { k < length p.old.machine.timers }
-    requires can { CanExpire p.old }
-    ensures { Does K.text K.faults (signals_expiry k) p.old p.new out.old out.new }
-{
-    if p.is_timer_pending(k) {
-        p.overrun_once_more(k);
-    } else {
-        generate_expiry(p, k, out);
-    }
-}
-
-/// A timer expires: its signal is generated, unless a record of the timer is pending still, which is one overrun more. Then it is due
-/// again after its interval, or disarmed where it has none.
-#[tactic(auto, using(crate::proofs::Expired::signalled_now, crate::proofs::Expired::signalled_many, crate::proofs::Expired::armed_after))]
-pub fn expire<K: Sink>(p: &mut Parts, k: ObjId, out: &mut Tracer<'_, K>)
-    requires timer { k < length p.old.machine.timers }
-    requires can { CanExpire p.old }
-    ensures { Does K.text K.faults (expires k) p.old p.new out.old out.new }
-{
-    signal_expiry(p, k, out);
-    p.arm_timer_again(k);
 }

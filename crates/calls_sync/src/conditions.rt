@@ -20,6 +20,7 @@ ghost use Rattle.calls_sync.specs.Premises.{CanBroadcast, CanContend};
 use crate::mutexes::release;
 use kernel_state::{Caller, Parts};
 use kernel_threads::Wait;
+use kernel_wakes::{wake, wake_cancelled};
 use parts_io::Sink;
 use parts_tracer::Tracer;
 use parts_waiters::WaitObj;
@@ -32,9 +33,9 @@ fn return_from_wait<K: Sink>(p: &mut Parts, t: Tid, how: CondEnd, out: &mut Trac
     ensures { Does K.text K.faults (returns_from_wait how t) p.old p.new out.old out.new }
 {
     match how {
-        CondEnd::Signalled => p.wake(t, Res::Zero, 0, out),
-        CondEnd::Timedout => p.wake(t, Res::Timedout, 0, out),
-        CondEnd::Cancelled => p.wake_cancelled(t, out),
+        CondEnd::Signalled => wake(p, t, Res::Zero, 0, out),
+        CondEnd::Timedout => wake(p, t, Res::Timedout, 0, out),
+        CondEnd::Cancelled => wake_cancelled(p, t, out),
     }
 }
 

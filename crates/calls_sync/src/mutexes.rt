@@ -17,6 +17,7 @@ use crate::answers::{
 };
 use kernel_state::{Caller, Parts};
 use kernel_threads::Wait;
+use kernel_wakes::{wake_cancelled_owner, wake_owner};
 use parts_io::Sink;
 use parts_tracer::Tracer;
 use parts_waiters::WaitObj;
@@ -133,10 +134,10 @@ fn hand_over<K: Sink>(p: &mut Parts, t: Tid, k: ObjId, w: Tid, out: &mut Tracer<
     ensures { Does K.text K.faults (releases k) p.old p.new out.old out.new }
 {
     if is_cancelled_waiter(p, w) {
-        p.wake_cancelled_owner(k, t, w, out);
+        wake_cancelled_owner(p, k, t, w, out);
     } else {
         let answer = answer_as_owner(p, w);
-        p.wake_owner(k, t, w, answer, out);
+        wake_owner(p, k, t, w, answer, out);
     }
 }
 

@@ -13,6 +13,7 @@ ghost use Rattle.kernel_state.specs.Callers.{CanBlock, CanWake};
 use crate::blocking::block_unless_late;
 use kernel_state::{Caller, Parts};
 use kernel_threads::Wait;
+use kernel_wakes::wake;
 use parts_io::Sink;
 use parts_tracer::Tracer;
 use parts_waiters::WaitObj;
@@ -95,7 +96,7 @@ fn return_and_wake<K: Sink>(p: &mut Parts, by: &Caller<'_>, w: Tid, out: &mut Tr
     ensures { Does K.text K.faults (λ s. s ▷ returns (caller by.now) res.Zero 0 ▷ wakes w res.Zero 0) p.old p.new out.old out.new }
 {
     p.returns(by, Res::Zero, 0, out);
-    p.wake(w, Res::Zero, 0, out);
+    wake(p, w, Res::Zero, 0, out);
 }
 
 /// `sem_post`.

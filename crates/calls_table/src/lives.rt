@@ -10,6 +10,7 @@ ghost use Rattle.kernel_state.specs.Caller.{caller};
 ghost use Rattle.calls_table.specs.Calls.{CanStart};
 
 use kernel_state::{Caller, Parts};
+use kernel_wakes::start;
 use parts_io::Sink;
 use parts_tracer::Tracer;
 use words_numbers::{Res, Tid};
@@ -21,7 +22,7 @@ fn create_dormant<K: Sink>(p: &mut Parts, by: &Caller<'_>, u: Tid, out: &mut Tra
 {
     let mask = p.thread(by.thread).inherited_mask();
     p.returns(by, Res::Zero, 0, out);
-    p.start(u, mask, out);
+    start(p, u, mask, out);
 }
 
 /// `pthread_create`.

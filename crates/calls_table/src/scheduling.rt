@@ -13,6 +13,7 @@ ghost use Rattle.kernel_state.specs.Caller.{caller};
 ghost use Rattle.calls_table.specs.Calls.{CanStart};
 
 use kernel_state::{Caller, Parts};
+use kernel_wakes::activate;
 use parts_io::Sink;
 use parts_tracer::Tracer;
 use words_numbers::{Prio, Res, Tid};
@@ -78,7 +79,7 @@ fn activate_if<K: Sink>(p: &mut Parts, runs: bool, u: Tid, out: &mut Tracer<'_, 
     ensures { Does K.text K.faults (activates_if runs u) p.old p.new out.old out.new }
 {
     if runs {
-        p.activate(u, out);
+        activate(p, u, out);
     }
 }
 

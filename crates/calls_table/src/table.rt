@@ -27,6 +27,7 @@ use calls_threads::{
     acts_in_place, cancel, exit, join, pop_cleanup, push_cleanup, set_cancelability,
 };
 use kernel_state::{Caller, Parts};
+use kernel_wakes::cancel_now;
 use parts_io::Sink;
 use parts_tracer::Tracer;
 use words_numbers::{Res, Tid};
@@ -137,7 +138,7 @@ pub fn make_call<K: Sink>(p: &mut Parts, thread: Tid, call: &Call, out: &mut Tra
 {
     let by = Caller { thread, call };
     if acts_in_place(p, &by) {
-        p.cancel_now(thread, out);
+        cancel_now(p, thread, out);
     } else {
         do_call(p, &by, out);
     }

@@ -19,6 +19,7 @@ ghost use Rattle.calls_threads.specs.Premises.{CanCancel};
 use calls_sync::contend;
 use kernel_state::{Caller, Parts};
 use kernel_threads::{Joiner, Wait};
+use kernel_wakes::wake_cancelled;
 use parts_io::Sink;
 use parts_tracer::Tracer;
 use rules_machine::{CondEnd, is_cancellation_point};
@@ -49,7 +50,7 @@ fn leave_end<K: Sink>(p: &mut Parts, t: Tid, u: Tid, out: &mut Tracer<'_, K>)
     ensures { Does K.text K.faults (λ s. s ▷ changes t (with_joiner nobody) ▷ wakes_cancelled u) p.old p.new out.old out.new }
 {
     p.set_joiner(t, Joiner::Nobody);
-    p.wake_cancelled(u, out);
+    wake_cancelled(p, u, out);
 }
 
 // A request acts in a thread that waits so.
@@ -65,11 +66,11 @@ fn leave<K: Sink>(p: &mut Parts, wait: &Wait, u: Tid, out: &mut Tracer<'_, K>)
         Wait::MutexAgain(_, _) => return,
         Wait::Condition(_, _) => contend(p, u, CondEnd::Cancelled, out),
         Wait::End(t) => leave_end(p, *t, u, out),
-        Wait::Semaphore(_) => p.wake_cancelled(u, out),
-        Wait::Time => p.wake_cancelled(u, out),
-        Wait::Room(_, _) => p.wake_cancelled(u, out),
-        Wait::Message(_) => p.wake_cancelled(u, out),
-        Wait::Signal(_) => p.wake_cancelled(u, out),
+        Wait::Semaphore(_) => wake_cancelled(p, u, out),
+        Wait::Time => wake_cancelled(p, u, out),
+        Wait::Room(_, _) => wake_cancelled(p, u, out),
+        Wait::Message(_) => wake_cancelled(p, u, out),
+        Wait::Signal(_) => wake_cancelled(p, u, out),
     }
 }
 

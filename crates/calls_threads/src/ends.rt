@@ -17,6 +17,7 @@ ghost use Rattle.calls_threads.specs.Premises.{CanFinish};
 
 use kernel_state::{Caller, Parts};
 use kernel_threads::Joiner;
+use kernel_wakes::wake;
 use parts_io::Sink;
 use parts_tracer::Tracer;
 use rules_machine::FrameKind;
@@ -32,7 +33,7 @@ fn wake_waiting<K: Sink>(p: &mut Parts, t: Tid, u: Tid, out: &mut Tracer<'_, K>)
 {
     let value = p.thread(t).exit_value();
     p.set_joiner(t, Joiner::HasJoined);
-    p.wake(u, Res::Zero, value, out);
+    wake(p, u, Res::Zero, value, out);
 }
 
 // Who waits to join a thread that has ended wakes.

@@ -15,9 +15,9 @@ use Rattle.rules_machine.specs.Calls.{unit_effect}
 use Rattle.rules_machine.specs.Ticks.{TickEnd, completes_at, ends_tick, exhausting, nothing, planning, slicing, without_slice}
 use Rattle.rules_flat_code.specs.KnownCalls.{Objects}
 use Rattle.kernel_leaps.specs.Completes.{CanComplete}
-use Rattle.calls_table.proofs.Coming.Steps.{Comes, Fewer, changes_fewer, fewer_come, moves_if_machine}
-use Rattle.calls_table.proofs.Coming.Lives.{finishes_come}
-use Rattle.calls_table.proofs.Coming.Calls.{made_come}
+use Rattle.calls_items.proofs.Coming.Steps.{Comes, Fewer, changes_fewer, fewer_come, moves_if_machine}
+use Rattle.calls_items.proofs.Coming.Lives.{finishes_come}
+use Rattle.calls_items.proofs.Coming.Calls.{made_come}
 use Rattle.kernel_state.specs.Kernel.{by}
 
 -- ---- units

@@ -24,7 +24,7 @@ use Rattle.rules_machine.specs.Mutexes.{owned_by}
 use Rattle.rules_machine.specs.Waiters.{waits_so}
 use Rattle.calls_sync.specs.Waits.{WaitKnowsMutex}
 use Rattle.kernel_state.specs.Kernel.{Kernel, after, turn}
-use Rattle.kernel_state.specs.Stood.{StoodRight}
+use Rattle.kernel_settling.specs.Stood.{StoodRight}
 use Rattle.calls_table.specs.Calls.{objects_in}
 use Rattle.kernel_leaps.specs.Completes.{CanAct}
 use Rattle.laws_kernel.specs.Counts.{Counts, counts_in, counts_of}

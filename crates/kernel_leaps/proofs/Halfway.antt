@@ -14,7 +14,7 @@ use Rattle.calls_table.specs.Calls.{objects_in}
 use Rattle.kernel_leaps.specs.Fits.{Fits, ItemsFit}
 use Rattle.kernel_leaps.proofs.Fitting.{objects_same}
 use Rattle.kernel_state.specs.Kernel.{Kernel, after, told, turn}
-use Rattle.kernel_state.specs.Stood.{StoodRight}
+use Rattle.kernel_settling.specs.Stood.{StoodRight}
 use Rattle.kernel_leaps.proofs.ItemsLaw.{instant_is, items_more}
 use Rattle.kernel_state.proofs.Turns.{then_state_in, then_told_in}
 

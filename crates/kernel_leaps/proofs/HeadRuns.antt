@@ -7,7 +7,7 @@ use Rattle.rules_machine.specs.Threads.{can_run}
 use Rattle.rules_machine.specs.Dispatch.{head}
 use Rattle.rules_moves.proofs.Runs.Listed.{AllRun, head_can_run}
 use Rattle.rules_moves.proofs.Waiters.Best.{Each}
-use Rattle.kernel_state.specs.Stood.{StoodRight}
+use Rattle.kernel_settling.specs.Stood.{StoodRight}
 
 here_once : (u : ℕ) (us : List ℕ) → times u (u ∷ us) ≡ 0 → ⊥
 here_once u us e = grind arith

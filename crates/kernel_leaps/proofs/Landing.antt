@@ -25,7 +25,7 @@ use Rattle.laws_leaps.proofs.Leaps.Law.{leap_runs_behind}
 use Rattle.laws_leaps.proofs.Quiet.Charges.{prepared_machine}
 use Rattle.kernel_state.specs.Kernel.{Kernel, after, turn}
 use Rattle.kernel_state.proofs.Turns.{then_state_in}
-use Rattle.calls_signals.specs.Premises.{CanSweep}
+use Rattle.kernel_state.specs.Caught.{CanSweep}
 use Rattle.calls_table.specs.Calls.{objects_in}
 use Rattle.laws_kernel.specs.Visitable.{CanBeSwept}
 use Rattle.laws_kernel.proofs.Sweeping.{can_visit, swept_back}

@@ -26,7 +26,7 @@ use Rattle.laws_leaps.proofs.Leaps.Going.{gone, gone_can_run, gone_exec, leapt_a
 use Rattle.kernel_threads.specs.Lasting.{used_up}
 use Rattle.kernel_threads.specs.Running.{only_takes_time}
 use Rattle.kernel_state.specs.Kernel.{Kernel, after, told, turn}
-use Rattle.kernel_state.specs.Stood.{StoodRight}
+use Rattle.kernel_settling.specs.Stood.{StoodRight}
 use Rattle.kernel_leaps.proofs.Running.{turn_is}
 
 pub does_nothing : (bodies : Bodies Cursor) (t : ℕ) (u : unit_type.Unit) → only_takes_time u ≡ true → (s : Turn Cursor) → unit_effect bodies t u s ≡ s

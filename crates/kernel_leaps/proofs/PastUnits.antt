@@ -7,7 +7,7 @@ use Rattle.rules_moves.proofs.Waiters.Best.{running_within}
 use Rattle.rules_flat_code.specs.FlatBodies.{flat_bodies}
 use Rattle.calls_table.specs.Calls.{objects_in}
 use Rattle.kernel_state.specs.Kernel.{Kernel, after}
-use Rattle.kernel_state.specs.Stood.{StoodRight}
+use Rattle.kernel_settling.specs.Stood.{StoodRight}
 use Rattle.kernel_leaps.specs.Fits.{FitsLeap, StaysFit}
 use Rattle.kernel_threads.specs.Running.{ArePassed, all_of, run_for}
 use Rattle.kernel_leaps.specs.Passing.{HasLeapt, MayLeapOn, leap_of, passed_by}

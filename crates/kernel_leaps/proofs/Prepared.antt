@@ -35,7 +35,7 @@ use Rattle.kernel_threads.specs.Unused.{IsUnused, IsUnusedAs}
 use Rattle.laws_threads.specs.Within.{HighWithin}
 use Rattle.calls_table.specs.Calls.{HasRoomFor}
 use Rattle.kernel_state.specs.Kernel.{Kernel, after, turn}
-use Rattle.kernel_state.specs.Stood.{StoodRight}
+use Rattle.kernel_settling.specs.Stood.{StoodRight}
 use Rattle.kernel_leaps.specs.Completes.{CanComplete, CanTick}
 use Rattle.kernel_leaps.specs.Fits.{FitsThread}
 use Rattle.kernel_leaps.proofs.HeadRuns.{head_runs}

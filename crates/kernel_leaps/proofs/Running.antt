@@ -21,7 +21,7 @@ use Rattle.laws_leaps.proofs.Quiet.AnyMachine.{handled_of}
 use Rattle.kernel_leaps.specs.Fits.{CanLeap, Fits, ItemsFit, StaysFit}
 use Rattle.kernel_leaps.proofs.Fitting.{objects_same}
 use Rattle.kernel_state.specs.Kernel.{Kernel, after, told, turn}
-use Rattle.kernel_state.specs.Stood.{StoodRight}
+use Rattle.kernel_settling.specs.Stood.{StoodRight}
 
 -- so many ticks are done
 pub record Running {K : Type 0} (text : K → Option (List ℕ)) (faults : K → ℕ) (start k : Kernel) (n : ℕ) (a b : Tracer K) : Type 0 where

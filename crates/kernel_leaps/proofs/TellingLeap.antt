@@ -6,7 +6,7 @@ use Rattle.rules_machine.specs.WellFormed.{IsWellFormed}
 use Rattle.rules_flat_code.specs.FlatBodies.{flat_bodies}
 use Rattle.rules_leaps.specs.Leap.{leap_length, leap_runs}
 use Rattle.kernel_state.specs.Kernel.{Kernel, after}
-use Rattle.kernel_state.specs.Stood.{StoodRight}
+use Rattle.kernel_settling.specs.Stood.{StoodRight}
 use Rattle.kernel_leaps.specs.Detail.{AreBefore, GoesOn, HasGoneOn, IsAfterQuietTick, Stops}
 use Rattle.kernel_leaps.specs.declared.detail.Reached.{Reached}
 use Rattle.kernel_leaps.specs.declared.fact_texts.FactTexts.{FactTexts}

@@ -13,7 +13,7 @@ use Rattle.laws_flat_code.proofs.Agrees.{flat_runs}
 use Rattle.laws_detail.specs.Looks.{told_until}
 use Rattle.laws_detail.proofs.Looks.{is_told}
 use Rattle.kernel_state.specs.Kernel.{Kernel, opened}
-use Rattle.kernel_state.specs.Stood.{StoodRight}
+use Rattle.kernel_settling.specs.Stood.{StoodRight}
 use Rattle.kernel_leaps.specs.Detail.{AreBefore, GoesOn, IsAfterQuietTick, Writes, told_by}
 use Rattle.kernel_leaps.specs.Ran.{ticked_by}
 use Rattle.kernel_leaps.specs.declared.detail.Reached.{Reached}

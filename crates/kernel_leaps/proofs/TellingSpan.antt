@@ -26,7 +26,7 @@ use Rattle.script_printer.proofs.Puts.{put_same}
 use Rattle.kernel_texts.specs.Changed.{changed_lines}
 use Rattle.kernel_texts.specs.Kept.{texts_of}
 use Rattle.kernel_state.specs.Kernel.{Kernel, after, opened, told, turn}
-use Rattle.kernel_state.specs.Stood.{StoodRight}
+use Rattle.kernel_settling.specs.Stood.{StoodRight}
 use Rattle.kernel_leaps.specs.Detail.{AreBefore, GoesOn, HasGoneOn, AreReady, IsAfterQuietTick, StayIfIdle, Stops, Writes}
 use Rattle.kernel_leaps.specs.Ran.{ticked_by}
 use Rattle.kernel_leaps.specs.declared.detail.Reached.{Reached}

@@ -30,13 +30,13 @@ use Rattle.rules_leaps.specs.Quiet.{after_ticks}
 use Rattle.kernel_threads.specs.declared.ran.Ran.{Ran}
 use Rattle.kernel_threads.specs.Running.{all_of}
 use Rattle.calls_table.specs.Calls.{objects_in}
-use Rattle.calls_table.proofs.Coming.Steps.{come_later}
-use Rattle.calls_signals.specs.Premises.{CanSweep}
+use Rattle.calls_items.proofs.Coming.Steps.{come_later}
+use Rattle.kernel_state.specs.Caught.{CanSweep}
 use Rattle.kernel_state.specs.Kernel.{Kernel, after, told, turn}
-use Rattle.kernel_state.specs.Settled.{HavePriorities, Settles}
-use Rattle.kernel_state.specs.Stood.{StoodRight}
-use Rattle.kernel_state.proofs.SettleIs.{settles_after}
-use Rattle.kernel_state.proofs.StoodAgain.{stood_again}
+use Rattle.kernel_settling.specs.Settled.{HavePriorities, Settles}
+use Rattle.kernel_settling.specs.Stood.{StoodRight}
+use Rattle.kernel_settling.proofs.SettleIs.{settles_after}
+use Rattle.kernel_settling.proofs.StoodAgain.{stood_again}
 use Rattle.kernel_state.proofs.Turns.{then_state, then_state_in, then_told, then_told_in}
 use Rattle.kernel_leaps.specs.Completes.{CanAct, CanComplete}
 use Rattle.kernel_leaps.specs.Passing.{HasLeapt, MayLeap, leap_of, passed_by}

@@ -7,8 +7,8 @@ use Rattle.rules_machine.specs.Threads.{thread_at}
 use Rattle.rules_machine.specs.Ticks.{TickEnd, ends_tick, nothing, tick_end, tick_ends}
 use Rattle.rules_machine.specs.Turns.{Turn, settles_since}
 use Rattle.kernel_state.specs.Kernel.{Kernel, after}
-use Rattle.kernel_state.specs.Stood.{StoodRight}
-use Rattle.kernel_state.proofs.SweepNothing.{settled_nothing}
+use Rattle.kernel_settling.specs.Stood.{StoodRight}
+use Rattle.kernel_settling.proofs.SweepNothing.{settled_nothing}
 
 pub ends_with_nothing : (k : Kernel) (was_high : Bool) (t : ℕ) → StoodRight k.machine → k.direct ≡ [] →
     tick_end was_high k.machine.quantum (thread_at k.machine t) ≡ nothing → k ≡ after (tick_ends was_high t) k

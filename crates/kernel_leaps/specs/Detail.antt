@@ -19,7 +19,7 @@ use Rattle.kernel_texts.specs.Kept.{texts_of}
 use Rattle.kernel_texts.specs.Subjects.{subjects_of}
 use Rattle.kernel_looks.specs.Desk.{HasDeskRooms, IsReady}
 use Rattle.kernel_state.specs.Kernel.{Kernel, opened}
-use Rattle.kernel_state.specs.Stood.{StoodRight}
+use Rattle.kernel_settling.specs.Stood.{StoodRight}
 use Rattle.kernel_leaps.specs.Ran.{ticked_by}
 use Rattle.kernel_leaps.specs.declared.fact_texts.FactTexts.{FactTexts}
 use Rattle.kernel_leaps.specs.declared.detail.Reached.{Reached}

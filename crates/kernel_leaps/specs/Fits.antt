@@ -20,7 +20,7 @@ use Rattle.kernel_state.specs.Kernel.{Kernel, turn}
 use Rattle.kernel_state.specs.Pending.{PendingFits, SignalsFit}
 use Rattle.calls_sync.specs.Waits.{WaitsFit}
 use Rattle.calls_threads.specs.Joins.{JoinsFit}
-use Rattle.calls_table.specs.Handled.{CanHandle}
+use Rattle.calls_items.specs.Handled.{CanHandle}
 use Rattle.kernel_leaps.specs.Completes.{CanTick}
 use Rattle.laws_kernel.specs.Counts.{HasSerials, counts_in, counts_of}
 use Rattle.laws_kernel.specs.Visitable.{CanBeSwept}

@@ -1,7 +1,7 @@
 -- What holds of a kernel between runs.
 use Rattle.std.specs.Prelude.{◌≡◌, []}
 use Rattle.kernel_state.specs.Kernel.{Kernel}
-use Rattle.kernel_state.specs.Stood.{StoodRight}
+use Rattle.kernel_settling.specs.Stood.{StoodRight}
 use Rattle.calls_table.specs.Calls.{objects_in}
 use Rattle.kernel_leaps.specs.Fits.{StaysFit}
 

@@ -24,11 +24,12 @@ ghost use Rattle.kernel_leaps.specs.Passing.{IsQuietTick, MayLeapOn, PassesNoUni
 ghost use Rattle.kernel_leaps.specs.Ran.{ticked_by};
 ghost use Rattle.kernel_leaps.specs.Shown.{HasFewObjects};
 ghost use Rattle.kernel_state.specs.Kernel.{after, opened, told};
-ghost use Rattle.kernel_state.specs.Stood.{StoodRight};
+ghost use Rattle.kernel_settling.specs.Stood.{StoodRight};
 
 use crate::fact_texts::FactTexts;
 use crate::instant::do_instant;
 use crate::leaps::{Passed, leap_thread};
+use kernel_dispatch::{prepare, report};
 use kernel_state::Parts;
 use parts_io::Sink;
 use parts_steps::Steps;
@@ -63,7 +64,7 @@ fn write_dispatch<K: Sink>(p: &mut Parts, sink: &mut K) -> (Option<Tid>, bool)
     ensures told { Printed (outlet K.text K.faults false sink.old) (outlet K.text K.faults result.1 sink.new) (lines p.old.names (told (prepares (head p.old.machine)) p.old)) }
 {
     let mut out = Tracer::new(sink);
-    let to = p.prepare(&mut out);
+    let to = prepare(p, &mut out);
     (to, out.failed())
 }
 
@@ -295,7 +296,7 @@ fn write_closing<K: Sink>(p: &Parts, sink: &mut K) -> bool
     ensures { Printed (outlet K.text K.faults false sink.old) (outlet K.text K.faults result sink.new) (closing p.now.names p.now.machine) }
 {
     let mut out = Tracer::new(sink);
-    p.report(&mut out);
+    report(p, &mut out);
     out.failed()
 }
 

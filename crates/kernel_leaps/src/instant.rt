@@ -6,9 +6,9 @@ ghost use Rattle.calls_table.specs.Calls.{objects_in};
 ghost use Rattle.kernel_leaps.specs.Fits.{ItemsFit};
 ghost use Rattle.kernel_state.specs.Does.{Does};
 ghost use Rattle.kernel_state.specs.Kernel.{after};
-ghost use Rattle.kernel_state.specs.Stood.{StoodRight};
+ghost use Rattle.kernel_settling.specs.Stood.{StoodRight};
 
-use calls_table::do_item;
+use calls_items::do_item;
 use kernel_state::Parts;
 use parts_io::{NullSink, Sink};
 use parts_tracer::Tracer;

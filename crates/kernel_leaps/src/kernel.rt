@@ -15,7 +15,7 @@ ghost use Rattle.rules_flat_code.specs.FlatBodies.{flat_bodies};
 ghost use Rattle.rules_machine.specs.WellFormed.{IsWellFormed};
 ghost use Rattle.rules_flat_code.specs.Runnable.{IsRunnable};
 ghost use Rattle.kernel_state.specs.Kernel.{opened, ran};
-ghost use Rattle.kernel_state.specs.Stood.{StoodRight};
+ghost use Rattle.kernel_settling.specs.Stood.{StoodRight};
 ghost use Rattle.calls_table.specs.Calls.{objects_in};
 ghost use Rattle.kernel_leaps.specs.Fits.{StaysFit};
 ghost use Rattle.kernel_leaps.specs.Good.{IsGood};
@@ -33,6 +33,9 @@ use crate::detail::write_detail;
 use crate::fact_texts::FactTexts;
 use crate::instant::handle_items;
 use crate::run::{RunEnd, run_leaps};
+use kernel_dispatch::report;
+use kernel_opening::open;
+use kernel_settling::know_priorities;
 use kernel_shown::write_state;
 use kernel_state::Parts;
 use parts_io::{Failed, Sink};
@@ -142,7 +145,7 @@ impl Kernel {
     pub fn report<K: Sink>(&self, out: &mut Tracer<'_, K>)
         ensures { Prints K.text K.faults out.old out.new (closing self.now.names self.now.machine) }
     {
-        self.parts.report(out)
+        report(&self.parts, out)
     }
 
     /// Writes what `show` tells of the instant: who stands on which list, who waits for what, and more. What is due at the instant is handled
@@ -202,7 +205,7 @@ fn open_parts(alloc: Global, script: &Script) -> Result<Box<Parts>, AllocError>
     ensures stood { IfOk result (λ k. StoodRight k.value.machine) }
     ensures fits { IfOk result (λ k. StaysFit k.value (objects_in k.value)) }
 {
-    let parts = Parts::open(alloc, script)?;
-    parts.know_priorities();
+    let parts = open(alloc, script)?;
+    know_priorities(&parts);
     Ok(parts)
 }

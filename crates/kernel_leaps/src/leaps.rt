@@ -12,12 +12,14 @@ ghost use Rattle.kernel_threads.specs.Lasting.{used_up};
 ghost use Rattle.kernel_threads.specs.Running.{only_takes_time};
 ghost use Rattle.kernel_leaps.specs.Fits.{StaysFit};
 ghost use Rattle.kernel_leaps.specs.Passing.{HasLeapt, IsQuietTick, MayLeapOn, PassesNoUnit};
-ghost use Rattle.kernel_state.specs.Stood.{StoodRight};
+ghost use Rattle.kernel_settling.specs.Stood.{StoodRight};
 
 use crate::instant::do_instant;
 use crate::tick_ends::end_tick;
 use crate::units::{complete_at_end, run_thread};
-use calls_signals::sweep;
+use calls_items::sweep;
+use kernel_dispatch::prepare;
+use kernel_settling::settle;
 use kernel_state::Parts;
 use kernel_threads::{Ran, TickEnd};
 use parts_io::Sink;
@@ -103,7 +105,7 @@ pub(crate) fn leap_thread<K: Sink, L: Ledger, const WAY: usize>(
     let is_quiet = ended_quietly(&ran, saves);
     let is_still = only_took_time(p, &ran, saves);
     complete_at_end::<K, WAY>(p, t, &ran, out);
-    p.settle();
+    settle(p);
     end_tick(p, ran.was_high, t, out);
     sweep(p, out);
     Passed {
@@ -140,7 +142,7 @@ pub(crate) fn leaps<K: Sink, L: Ledger>(
     if p.is_killed() {
         return most;
     }
-    let to = p.prepare(out);
+    let to = prepare(p, out);
     let near = p.ticks_to_next(most);
     let Some(t) = to else {
         let k = near.max(1);

@@ -6,6 +6,7 @@ ghost use Rattle.rules_machine.specs.Servers.{has_run};
 ghost use Rattle.rules_machine.specs.Threads.{thread_at};
 ghost use Rattle.laws_detail.specs.Rests.{BeginsPlainly};
 
+use kernel_dispatch::has_run;
 use kernel_state::Parts;
 use words_numbers::Tid;
 
@@ -19,7 +20,7 @@ fn has_no_other_run(p: &Parts, to: &Option<Tid>) -> bool
     }
     match p.last_dispatch() {
         None => true,
-        Some(u) => !p.has_run(u),
+        Some(u) => !has_run(p, u),
     }
 }
 

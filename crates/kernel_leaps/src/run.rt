@@ -8,7 +8,7 @@ ghost use Rattle.rules_leaps.specs.Leap.{in_leaps};
 ghost use Rattle.calls_table.specs.Calls.{objects_in};
 ghost use Rattle.kernel_leaps.specs.Fits.{StaysFit};
 ghost use Rattle.kernel_state.specs.Kernel.{Kernel};
-ghost use Rattle.kernel_state.specs.Stood.{StoodRight};
+ghost use Rattle.kernel_settling.specs.Stood.{StoodRight};
 
 use crate::leaps::leaps;
 use kernel_state::Parts;

@@ -6,10 +6,12 @@ ghost use Rattle.rules_machine.specs.Ticks.{consumed_in, ends_tick, exhausting, 
 ghost use Rattle.kernel_threads.specs.Ends.{end_of};
 ghost use Rattle.kernel_state.specs.Kernel.{after};
 ghost use Rattle.kernel_state.specs.Does.{Does};
-ghost use Rattle.kernel_state.specs.Stood.{StoodRight};
+ghost use Rattle.kernel_settling.specs.Stood.{StoodRight};
 
+use kernel_settling::settle;
 use kernel_state::Parts;
 use kernel_threads::TickEnd;
+use kernel_wakes::plan;
 use parts_io::Sink;
 use parts_tracer::Tracer;
 use words_numbers::Tid;
@@ -38,7 +40,7 @@ fn exhaust<K: Sink>(p: &mut Parts, t: Tid, out: &mut Tracer<'_, K>)
     ensures { Does K.text K.faults (ends_tick exhausting t) p.old p.new out.old out.new }
 {
     p.tell(&Event::Exhaust(t), out);
-    p.plan(t, out);
+    plan(p, t, out);
     p.move_unless_boosted(t);
 }
 
@@ -51,7 +53,7 @@ fn end_by_rule<K: Sink>(p: &mut Parts, was_high: bool, t: Tid, out: &mut Tracer<
     ensures does { Does K.text K.faults (ends_tick (tick_end was_high p.old.machine.quantum (thread_at p.old.machine t)) t) p.old p.new out.old out.new }
 {
     match p.tick_end(t, was_high) {
-        TickEnd::Planning => p.plan(t, out),
+        TickEnd::Planning => plan(p, t, out),
         TickEnd::Exhausting => exhaust(p, t, out),
         TickEnd::Slicing => use_slice(p, t),
         TickEnd::Nothing => return false,
@@ -69,6 +71,6 @@ pub(crate) fn end_tick<K: Sink>(p: &mut Parts, was_high: bool, t: Tid, out: &mut
     ensures stood { StoodRight p.new.machine }
 {
     if end_by_rule(p, was_high, t, out) {
-        p.settle();
+        settle(p);
     }
 }

@@ -1,16 +1,8 @@
 pub mod Turns
 pub mod Does
-pub mod InRange
-pub mod SettlingSteps
-pub mod OneSettles
-pub mod SettledSame
-pub mod SweepNothing
-pub mod SettleIs
-pub mod StoodAgain
 pub mod DueFirst
 pub mod TickParts
 pub mod Opened
-pub mod Closing
 pub mod Waits
 pub mod InConditions
 pub mod Nearest
@@ -22,6 +14,3 @@ pub mod Setting
 pub mod Targets
 pub mod InQueues
 pub mod LeftAlone
-pub mod LastRun
-pub mod Activations
-pub mod Risen

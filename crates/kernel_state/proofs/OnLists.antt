@@ -1,10 +1,52 @@
 -- On which list a thread stands, where others move and where it moves itself.
-use Rattle.std.proofs.Common.{◌≡◌, ◌≢◌, ◌<◌, ◌≤◌, ◌+◌, ◌-◌, ◌∙◌, ℕ, zero, suc, Bool, true, false, List, [], ◌∷◌, None, Some, ap, arith, length, nat_lt, refl, sym}
+use Rattle.std.proofs.Common.{◌≡◌, ◌≢◌, ◌<◌, ◌≤◌, ◌+◌, ◌-◌, ◌∙◌, ℕ, zero, suc, Bool, true, false, List, [], ◌∷◌, None, Option, Some, ap, arith, length, nat_lt, refl, sym}
 use Rattle.std.specs.Prelude.{◌==◌}
 use Rattle.rules_lists.specs.Threads.{stands_in, times}
 use Rattle.rules_lists.specs.Lists.{prio_from, prio_of, to_head, to_tail, without}
-use Rattle.rules_machine.proofs.Standing.{head_other, head_self, stands, stands_other, stands_without, tail_other, tail_self, head_length, tail_length, without_length}
-use Rattle.kernel_state.proofs.SettledSame.{reads}
+use Rattle.rules_machine.proofs.Standing.{one_if, head_other, head_self, stands, stands_other, stands_without, tail_other, tail_self, head_length, tail_length, without_length}
+
+-- ---- where a thread stands, and what is read there
+
+abbrev pub Where : Option ℕ → ℕ → List (List ℕ) → Type 0
+Where None t lists = (i : ℕ) → stands t i lists ≡ 0
+Where (Some e) t lists = (1 ≤ e) × (e - 1 < length lists) × ((i : ℕ) → stands t i lists ≡ one_if (e - 1 == i))
+
+not_in : (t : ℕ) (us : List ℕ) → times t us ≡ 0 → stands_in t us ≡ false
+not_in t [] h = refl
+not_in t (u ∷ us) h = grind (arith, not_in t us)
+
+is_in : (t : ℕ) (us : List ℕ) → 1 ≤ times t us → stands_in t us ≡ true
+is_in t [] h = absurd (omega arith)
+is_in t (u ∷ us) h = grind (arith, is_in t us)
+
+reads_none : (q t : ℕ) (lists : List (List ℕ)) → ((i : ℕ) → stands t i lists ≡ 0) → prio_from q t lists ≡ None
+reads_none q t [] h = refl
+reads_none q t (us ∷ lists) h = rw (not_in t us (h 0)) (reads_none (q + 1) t lists (λ i. h (suc i)))
+
+suc_test : (j i : ℕ) → (suc j == suc i) ≡ (j == i)
+suc_test j i = by_eq (j == i) refl
+  where
+    by_eq : (b : Bool) → (j == i) ≡ b → (suc j == suc i) ≡ b
+    by_eq true e = grind arith
+    by_eq false e = grind arith
+
+reads_some : (q j t : ℕ) (lists : List (List ℕ)) → j < length lists → ((i : ℕ) → stands t i lists ≡ one_if (j == i)) → prio_from q t lists ≡ Some (q + j)
+reads_some q j t [] lt h = absurd (omega arith)
+reads_some q zero t (us ∷ lists) lt h = let here : 1 ≤ times t us = omega (arith, h 0) in rw (is_in t us here) (ap (λ (n : ℕ). Some n) (omega arith))
+reads_some q (suc j) t (us ∷ lists) lt h =
+    let z : one_if (suc j == 0) ≡ 0 = grind arith in
+    let none : times t us ≡ 0 = h 0 ∙ z in
+    let later = reads_some (q + 1) j t lists (omega arith) (λ i. h (suc i) ∙ ap one_if (suc_test j i)) in
+    let e : (q + 1) + j ≡ q + suc j = omega arith in
+    rw (not_in t us none) (later ∙ ap (λ (n : ℕ). Some n) e)
+
+pub reads : (o : Option ℕ) (t : ℕ) (lists : List (List ℕ)) → Where o t lists → prio_of t lists ≡ o
+reads None t lists h = reads_none 1 t lists h
+reads (Some e) t lists h =
+    let back : 1 + (e - 1) ≡ e = omega (arith, h.0) in
+    reads_some 1 (e - 1) t lists h.1 h.2 ∙ ap (λ (n : ℕ). Some n) back
+
+-- ---- where others move
 
 -- whether it stands in a list, by how often it does
 in_times : (t : ℕ) (us : List ℕ) → stands_in t us ≡ nat_lt 0 (times t us)

@@ -1,5 +1,5 @@
 -- The kernel of a script, before the first tick.
-use Rattle.std.proofs.Common.{◌≡◌, ◌<◌, ℕ, zero, suc, List, [], ◌∷◌, Bool, true, false, ap, arith, length, refl, sym, replicate, ◌∙◌, Some}
+use Rattle.std.proofs.Common.{◌≡◌, ◌<◌, ℕ, zero, suc, List, [], ◌∷◌, ap, arith, length, refl, sym, ◌∙◌, Some}
 use Rattle.std.specs.Prelude.{map, slice_get, slice_index, slice_index_or}
 use Rattle.std.proofs.lemmas.List.{length-map}
 use Rattle.words_script.specs.Block.{Block, Nothing}
@@ -7,18 +7,14 @@ use Rattle.words_script.specs.declared.decl.Script.{Script}
 use Rattle.rules_bodies.specs.Flat as flat
 use Rattle.rules_bodies.specs.Next.{body_start}
 use Rattle.rules_bodies.proofs.Opens.{is_body_of_script}
-use Rattle.rules_lists.specs.Threads.{times}
 use Rattle.rules_bodies.specs.declared.cursor.Cursor.{Cursor}
 use Rattle.rules_machine.specs.Declarations.{ThreadDecl, threads_of}
-use Rattle.rules_machine.specs.Threads.{is_runnable, no_thread}
 use Rattle.rules_machine.specs.Machine.{names_of}
-use Rattle.rules_machine.specs.Runs.{opening, thread_opened}
+use Rattle.rules_machine.specs.Runs.{thread_opened}
 use Rattle.rules_flat_code.proofs.Numbered.{Numbered, cleanup_blocks, handler_blocks, known, thread_blocks}
 use Rattle.rules_flat_code.specs.FlatBodies.{code_of}
 use Rattle.rules_flat_code.specs.Runnable.{IsRunnable}
 use Rattle.kernel_threads.specs.Handlers.{CatchersBegin, HandlerBegins, HandlersBegin}
-use Rattle.kernel_state.specs.Settled.{HavePriorities}
-use Rattle.kernel_state.specs.Stood.{StoodRight}
 use Rattle.kernel_state.specs.Tied.{IsTied}
 
 -- a number that is there does not depend on what stands past the end
@@ -104,33 +100,3 @@ tied_opening script ok =
         each = λ t lt. (let h = numbered_there b.all b.threads (thread_blocks script.decls) t (known script).threads (omega (arith, code_threads script, named)) in omega (arith, h, length-map b.all (flat.flat 0)));
       };
     }
-
--- ---- and all threads stand right, as none does
-
-none_runs : (ds : List ThreadDecl) (t : ℕ) → is_runnable (slice_index_or (map (thread_opened {P = Cursor}) ds) t no_thread).status ≡ false
-none_runs [] t = refl
-none_runs (d ∷ ds) zero = refl
-none_runs (d ∷ ds) (suc t) = none_runs ds t
-
-abbrev none : List ℕ
-none = []
-
-empty_at : (n i : ℕ) → slice_index_or (replicate n none) i none ≡ none
-empty_at zero i = refl
-empty_at (suc n) zero = refl
-empty_at (suc n) (suc i) = empty_at n i
-
-no_times : (t : ℕ) (us : List ℕ) → us ≡ none → times t us ≡ 0
-no_times t us e = ap (times t) e
-
-not_both : {X : Type 0} (b : Bool) → b ≡ false → b ≡ true → X
-not_both b off on = let a : true ≡ false = sym on ∙ off in absurd cc
-
-pub stood_opening : (script : Script) → HavePriorities (opening {P = Cursor} script) → StoodRight (opening {P = Cursor} script)
-stood_opening script fits = record {
-  every = refl;
-  within = λ t. (let s = fits.small t in omega (arith, s));
-  positive = λ t runs. not_both _ (none_runs (threads_of script) t) runs;
-  runs = λ t i runs. not_both _ (none_runs (threads_of script) t) runs;
-  others = λ t i off. no_times t (slice_index_or (replicate 255 none) i none) (empty_at 255 i);
-}

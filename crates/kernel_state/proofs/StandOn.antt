@@ -15,8 +15,7 @@ use Rattle.parts_bits.specs.Sets.{HasNoneFrom, IsFirstFrom, Turns, has}
 use Rattle.kernel_state.specs.Members.{TakesIn}
 use Rattle.kernel_state.specs.Standing.{OthersStand, ComesNext, StandsRight}
 use Rattle.kernel_state.proofs.OnLists.{gone, gone_apart, head_apart, head_there, tail_apart, tail_there}
-use Rattle.kernel_state.proofs.SettleIs.{runs_known}
-use Rattle.kernel_state.proofs.Waits.{running_waits}
+use Rattle.kernel_state.proofs.Waits.{runs_known, running_waits}
 
 -- ---- names
 

@@ -1,9 +1,9 @@
 -- What is known of a thread that begins to wait, and of the one that is served first.
 use Rattle.std.proofs.Common.{◌≡◌, ◌<◌, ◌∙◌, ℕ, zero, suc, Bool, true, false, List, [], ◌∷◌, Option, None, Some, arith, length, refl}
-use Rattle.std.specs.Prelude.{IfSome, option_map}
+use Rattle.std.specs.Prelude.{IfSome, option_map, slice_index_or}
 use Rattle.rules_bodies.specs.declared.cursor.Cursor.{Cursor}
 use Rattle.rules_machine.specs.State.{Machine, Status, Thread, Wait, Waiting, blocked, dormant, ended, runnable}
-use Rattle.rules_machine.specs.Threads.{can_run, is_blocked, is_runnable, thread_at, thread_in, waiting_in, waiting_of}
+use Rattle.rules_machine.specs.Threads.{can_run, is_blocked, is_runnable, no_thread, thread_at, thread_in, waiting_in, waiting_of}
 use Rattle.rules_machine.specs.Priorities.{claims, mutex_awaited_by}
 use Rattle.rules_machine.specs.Mutexes.{closes_cycle}
 use Rattle.rules_machine.specs.Waiters.{Waiter, best_waiter}
@@ -23,6 +23,12 @@ running_waits (dormant at) h = not_off h
 running_waits runnable h = refl
 running_waits (blocked w) h = not_off h
 running_waits ended h = not_off h
+
+-- a thread that can run is one of the threads
+pub runs_known : {P : Type 0} (ths : List (Thread P)) (t : ℕ) → is_runnable (slice_index_or ths t no_thread).status ≡ true → t < length ths
+runs_known [] t h = absurd cc
+runs_known (x ∷ xs) zero h = omega arith
+runs_known (x ∷ xs) (suc t) h = let lt = runs_known xs t h in omega (arith, lt)
 
 -- a thread that can run waits for nothing
 pub awaits_none : (m : Machine Cursor) (t : ℕ) → can_run m t ≡ true → mutex_awaited_by (thread_at m t) ≡ None

@@ -57,6 +57,10 @@ refilled_telling t r runs s = s ▷ tells (event.Refill t r.amount r.capacity) �
 abbrev pub changes_policy : Caller → ℕ → Policy → ℕ → Turn Cursor → Turn Cursor
 changes_policy by u new now s = s ▷ returns by res.Zero 0 ▷ changes u (with_policy new now)
 
+-- the lists alone change
+abbrev pub with_lists : (List (List ℕ) → List (List ℕ)) → Kernel → Kernel
+with_lists change k = record k { machine = record (k.machine) { lists = change k.machine.lists } }
+
 -- who calls, and what
 abbrev pub by : ℕ → Call → Caller
 by t call = record { thread = t; call = call }

@@ -6,8 +6,6 @@ pub mod Members
 pub mod Standing
 pub mod Tied
 pub mod View
-pub mod Settled
-pub mod Stood
 pub mod Due
 pub mod Waits
 pub mod Messages

@@ -1,7 +1,8 @@
 //! All parts of the kernel, seen as one machine over flat code.
 //!
-//! Proved: all parts seen as one machine: each primitive is a step of a turn of the machine (what changes, and what is told); the
-//! settling, the dispatch, the next due item, the opening state, the closing lines.
+//! Proved: all parts seen as one machine: each primitive is a step of a turn of the machine (what changes, and what is told), or a
+//! change of the lists alone, after which each thread that is not named stands right; the next due item; put together of its parts it
+//! is the opening state.
 #![tactic(auto)]
 
 mod caller;
@@ -9,7 +10,6 @@ mod changes;
 mod clock;
 mod conditions;
 mod direct;
-mod dispatch;
 mod due;
 mod leaps;
 mod lists;
@@ -20,15 +20,12 @@ mod named;
 mod open;
 mod parts;
 mod reads;
-mod report;
 mod semaphore_values;
-mod servers;
 mod settings;
-mod settling;
 mod signals;
 mod threads;
 mod timers;
-mod wakes;
 
 pub use caller::Caller;
+pub use open::{Objects, RunBy};
 pub use parts::Parts;

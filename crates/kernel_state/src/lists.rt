@@ -2,9 +2,8 @@
 ghost use Rattle.std.specs.Prelude.{◌≡◌, ◌<◌, ◌+◌, IfSome, MatchOption, length, true};
 ghost use Rattle.rules_lists.specs.Lists.{AreReadyLists, highest, prio_of, to_head, to_tail, without};
 ghost use Rattle.rules_machine.specs.Priorities.{exec};
-ghost use Rattle.kernel_state.specs.Settled.{with_lists};
+ghost use Rattle.kernel_state.specs.Kernel.{with_lists, after};
 ghost use Rattle.kernel_state.specs.Standing.{IsNext, MachineStands, StandFrom};
-ghost use Rattle.kernel_state.specs.Kernel.{after};
 ghost use Rattle.rules_machine.specs.Mutexes.{moves_unless_boosted};
 ghost use Rattle.kernel_state.specs.Callers.{IsRunning};
 
@@ -28,7 +27,7 @@ impl Parts {
     }
 
     /// It becomes the tail of the list of its execution priority.
-    pub(crate) fn put_last(&mut self, t: Tid)
+    pub fn put_last(&mut self, t: Tid)
         requires { IsRunning self.old t }
         ensures { self.new ≡ with_lists (to_tail t (exec self.old.machine t)) self.old }
     {
@@ -40,7 +39,7 @@ impl Parts {
     }
 
     /// The same, and it stays named where it is.
-    pub(crate) fn put_last_as_named(&mut self, t: Tid)
+    pub fn put_last_as_named(&mut self, t: Tid)
         requires { IsRunning self.old t }
         ensures { self.new ≡ with_lists (to_tail t (exec self.old.machine t)) self.old }
     {
@@ -51,7 +50,7 @@ impl Parts {
     }
 
     /// It becomes the head of the list of its execution priority.
-    pub(crate) fn put_first(&mut self, t: Tid)
+    pub fn put_first(&mut self, t: Tid)
         requires { IsRunning self.old t }
         ensures { self.new ≡ with_lists (to_head t (exec self.old.machine t)) self.old }
     {
@@ -74,14 +73,14 @@ impl Parts {
     }
 
     /// Costs nothing when it runs: there are 255 lists.
-    pub(crate) fn know_lists(&self)
+    pub fn know_lists(&self)
         ensures { length self.now.machine.lists ≡ 255 }
     {
         let _ = &self.named;
     }
 
     #[inline(always)]
-    pub(crate) fn take_off(&mut self, t: Tid)
+    pub fn take_off(&mut self, t: Tid)
         requires { t < length self.old.names }
         ensures { self.new ≡ with_lists (without t) self.old }
     {
@@ -90,7 +89,7 @@ impl Parts {
     }
 
     /// The first named thread from that number on. Those before it, from that number on, stand right; where there is none, all do.
-    pub(crate) fn next_named(&self, from: u16) -> Option<Tid>
+    pub fn next_named(&self, from: u16) -> Option<Tid>
         ensures next { MatchOption result (StandFrom self.now.machine from) (λ t. IsNext self.now.machine from t) }
         ensures known { IfSome result (λ t. t < length self.now.names) }
     {
@@ -98,7 +97,7 @@ impl Parts {
     }
 
     /// Whether no other thread than that one is named. Those after it stand right then.
-    pub(crate) fn is_named_alone(&self, t: Tid) -> bool
+    pub fn is_named_alone(&self, t: Tid) -> bool
         requires { t < length self.now.names }
         ensures { result ≡ true → StandFrom self.now.machine (t + 1) }
     {
@@ -106,7 +105,7 @@ impl Parts {
     }
 
     /// A thread that stands right is named no more.
-    pub(crate) fn forget(&mut self, t: Tid)
+    pub fn forget(&mut self, t: Tid)
         requires known { t < length self.old.names }
         requires right { MachineStands self.old.machine t }
         ensures { self.new ≡ self.old }

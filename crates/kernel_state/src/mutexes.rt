@@ -8,18 +8,14 @@ ghost use Rattle.parts_waiters.specs.Ties.{is_object, object_of};
 ghost use Rattle.rules_machine.specs.Threads.{is_blocked, mutex_at, thread_at};
 ghost use Rattle.rules_machine.specs.Turns.{changes, changes_mutex, ◌▷◌};
 ghost use Rattle.rules_machine.specs.Waiters.{Waiter, best_waiter};
-ghost use Rattle.rules_machine.specs.Waking.{wakes, woken};
+ghost use Rattle.rules_machine.specs.Waking.{woken};
 ghost use Rattle.parts_owners.specs.Chains.{counted, is_plainly_free, taken_if};
 ghost use Rattle.kernel_state.specs.Kernel.{after};
-ghost use Rattle.kernel_state.specs.Does.{Does};
-ghost use Rattle.kernel_state.specs.Callers.{CanRise, IsOwner};
+ghost use Rattle.kernel_state.specs.Callers.{IsOwner};
 
 use crate::parts::Parts;
-use parts_io::Sink;
 use parts_owners::MutexState;
-use parts_tracer::Tracer;
 use parts_waiters::WaitObj;
-use rules_machine::call_name;
 use words_numbers::{ObjId, Res, Tid};
 use words_script::Protocol;
 
@@ -97,8 +93,8 @@ impl Parts {
         self.named.take_in(&moved);
     }
 
-    // The mutex goes from its owner to a thread that is runnable again.
-    pub(crate) fn hand_over(&mut self, k: ObjId, owner: Tid, t: Tid, res: Res, value: u64)
+    /// The mutex goes from its owner to a thread that is runnable again.
+    pub fn hand_over(&mut self, k: ObjId, owner: Tid, t: Tid, res: Res, value: u64)
         requires known { t < length self.old.names }
         requires owner { IsOwner self.old.machine k owner }
         ensures { self.new ≡ after (λ s. s ▷ changes_mutex k (taken_by t) ▷ changes t (woken res value)) self.old }
@@ -107,24 +103,6 @@ impl Parts {
         self.named.add(t);
         self.named.take_in(&released);
         self.named.take_in(&woken);
-    }
-
-    /// The mutex goes from its owner to a waiter, which wakes with that answer.
-    pub fn wake_owner<K: Sink>(
-        &mut self,
-        k: ObjId,
-        owner: Tid,
-        t: Tid,
-        res: Res,
-        out: &mut Tracer<'_, K>,
-    )
-        requires can { CanRise self.old t }
-        requires owner { IsOwner self.old.machine k owner }
-        ensures { Does K.text K.faults (λ s. s ▷ changes_mutex k (taken_by t) ▷ wakes t res 0) self.old self.new out.old out.new }
-    {
-        let call = call_name(&self.thread(t).waiting_call());
-        self.hand_over(k, owner, t, res, 0);
-        self.rise_answered::<K, 2>(call, t, res, 0, out);
     }
 
     /// The thread that is served first of those that wait for the object; `None` exactly where nobody does.

@@ -71,7 +71,7 @@ impl Parts {
 
     /// A call of a thread returns now. Each way to it has its own functions.
     #[inline(always)]
-    pub(crate) fn tell_return<K: Sink, const WAY: usize>(
+    pub fn tell_return<K: Sink, const WAY: usize>(
         &self,
         t: Tid,
         call: CallName,

@@ -4,15 +4,34 @@ ghost use Rattle.std.specs.List.{AllByRecursion};
 ghost use Rattle.rules_lists.specs.Lists.{list_of};
 ghost use Rattle.rules_machine.specs.State as machine;
 ghost use Rattle.rules_machine.specs.Threads.{queue_at, thread_at, timer_at};
+ghost use Rattle.kernel_state.specs.Standing.{table_in};
 
 use crate::parts::Parts;
 use kernel_queues::{HeldMessage, MessageQueue};
 use kernel_signals::SignalRecord;
+use kernel_table::Table;
 use kernel_threads::Thread;
 use kernel_timers::Timer;
+use parts_tracer::Names;
 use words_numbers::{ObjId, Prio, Tid};
 
 impl Parts {
+    /// The names of the threads.
+    #[inline(always)]
+    pub fn names(&self) -> &Names
+        ensures { result.now ≡ self.now.names }
+    {
+        &self.names
+    }
+
+    /// The threads, the mutexes and the timers as they stand.
+    #[inline(always)]
+    pub fn table(&self) -> &Table
+        ensures { result.now ≡ table_in self.now.machine }
+    {
+        &self.table
+    }
+
     /// A thread as it stands.
     pub fn thread(&self, t: Tid) -> &Thread
         requires { t < length self.now.names }

@@ -1,6 +1,5 @@
 //! What can be asked of a thread.
-ghost use Rattle.std.specs.Prelude.{◌≡◌, ◌≤◌, ◌<◌, ◌*◌, ◌^◌, length, Some, true};
-ghost use Rattle.rules_machine.specs.Servers.{has_run};
+ghost use Rattle.std.specs.Prelude.{◌≡◌, ◌≤◌, ◌<◌, ◌*◌, ◌^◌, length, Some};
 ghost use Rattle.rules_machine.specs.Threads.{moment_of, number_of, real_time, thread_at};
 ghost use Rattle.rules_flat_code.specs.KnownCalls.{IsMoment, IsOperand};
 ghost use Rattle.rules_machine.specs.Ticks.{tick_end};
@@ -62,17 +61,6 @@ impl Parts {
                 self.instant.plus(left)
             }
         }
-    }
-
-    /// Whether that thread has an open run of its server; none has where there is no such thread.
-    #[tactic(auto, using(crate::proofs::LastRun::run_named))]
-    pub fn has_run(&self, t: Tid) -> bool
-        ensures value { result ≡ has_run (thread_at self.now.machine t).server }
-        ensures known { result ≡ true → t < length self.now.names }
-    {
-        // so it is known which threads there are
-        let _ = &self.names;
-        self.table.has_run(t)
     }
 
     /// The rule of the tick's end.

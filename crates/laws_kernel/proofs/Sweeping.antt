@@ -34,8 +34,7 @@ use Rattle.laws_machine.proofs.Servers.Ends.{has_server}
 use Rattle.laws_threads.specs.Frames.{AreInOrder}
 use Rattle.laws_threads.proofs.Frames.{at_most_two}
 use Rattle.kernel_threads.specs.Unused.{IsUnused, IsUnusedAs}
-use Rattle.kernel_state.specs.Caught.{CatchesBy}
-use Rattle.calls_signals.specs.Premises.{CanVisit}
+use Rattle.kernel_state.specs.Caught.{CatchesBy, CanVisit}
 use Rattle.laws_kernel.specs.Visitable.{CanBeSwept, ConsumesHigh, IsVisitable}
 
 -- ---- one thread

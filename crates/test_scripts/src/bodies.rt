@@ -45,7 +45,7 @@ fn code_of(alloc: Global, thread: Body, handler: Body, cleanup: Body) -> Result<
         quantum,
         decls,
     };
-    Code::open(alloc, &script)
+    script_flattener::open(alloc, &script)
 }
 
 // What a unit is: its word, and the ticks that it runs or whether it runs a cleanup handler.

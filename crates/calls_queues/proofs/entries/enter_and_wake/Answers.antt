@@ -14,14 +14,14 @@ notify-requires-clause-can g c =
     let w = c.args.sender in
     let waits = subst (λ (k : Kernel). is_blocked (thread_at k.machine w).status ≡ true) (sym c.put_message.ensures) c.requires.blocked in
     let can = put_can c.args.q (message_of c.args.message) c.args.p.now c.put_message.new.self c.put_message.ensures c.requires.can.notifies in
-    woken_can w res.Zero 0 c.args.q c.put_message.new.self c.wake.new.self c.wake.ensures.state waits can
+    woken_can w res.Zero 0 c.args.q c.put_message.new.self c.wake.new.p c.wake.ensures.state waits can
 
 pub returns : goal.returns
 returns g c = record {
   state = (let w = c.args.sender in
-      entered c.args.q (message_of c.args.message) (wakes w res.Zero 0) (wakes_behind w res.Zero 0) c.fired_by_message-fired.result c.args.p.now c.put_message.new.self c.wake.new.self c.notify.new.p
+      entered c.args.q (message_of c.args.message) (wakes w res.Zero 0) (wakes_behind w res.Zero 0) c.fired_by_message-fired.result c.args.p.now c.put_message.new.self c.wake.new.p c.notify.new.p
       c.fired_by_message-fired.ensures.value c.put_message.ensures c.wake.ensures.state c.notify.ensures.state);
   told = (let w = c.args.sender in
-      told_entered c.args.q (message_of c.args.message) (wakes w res.Zero 0) (wakes_behind w res.Zero 0) c.fired_by_message-fired.result c.args.p.now c.put_message.new.self c.wake.new.self c.notify.new.p
+      told_entered c.args.q (message_of c.args.message) (wakes w res.Zero 0) (wakes_behind w res.Zero 0) c.fired_by_message-fired.result c.args.p.now c.put_message.new.self c.wake.new.p c.notify.new.p
       c.fired_by_message-fired.ensures.value c.put_message.ensures c.wake.ensures.state g.K.Sink.text g.K.Sink.faults c.args.out.now c.wake.new.out c.notify.new.out c.wake.ensures.told c.notify.ensures.told);
 }

@@ -12,11 +12,10 @@ use Rattle.script_printer.specs.Puts as printer
 use Rattle.script_printer.proofs.Puts.{put_nothing, put_same}
 use Rattle.kernel_texts.specs.Rooms.{HasObjectsOf}
 use Rattle.kernel_state.specs.Kernel.{Kernel, told}
-use Rattle.kernel_state.specs.Stood.{StoodRight}
+use Rattle.kernel_settling.specs.Stood.{StoodRight}
 use Rattle.calls_table.specs.Calls.{objects_in}
-use Rattle.kernel_leaps.specs.Detail.{HasGoneOn, IsAfterQuietTick, Writes}
+use Rattle.kernel_leaps.specs.Detail.{HasGoneOn, IsAfterQuietTick, Writes, is_rest, steps_left}
 use Rattle.kernel_leaps.specs.Fits.{StaysFit}
-use Rattle.kernel_leaps.specs.Detail.{is_rest, steps_left}
 use Rattle.kernel_leaps.specs.Passing.{IsQuietTick, PassesNoUnit, leap_of}
 use Rattle.kernel_leaps.specs.declared.detail.Reached.{Reached}
 use Rattle.kernel_leaps.specs.declared.fact_texts.FactTexts.{FactTexts}

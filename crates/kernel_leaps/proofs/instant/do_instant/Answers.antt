@@ -4,11 +4,11 @@ use Rattle.rules_machine.specs.DueItems.{item_done}
 use Rattle.rules_machine.proofs.ItemsEnd.{item_falls}
 use Rattle.rules_flat_code.specs.FlatBodies.{flat_bodies}
 use Rattle.kernel_state.specs.Kernel.{Kernel, after, told, turn}
-use Rattle.calls_table.specs.Handled.{CanHandle}
+use Rattle.calls_items.specs.Handled.{CanHandle}
 use Rattle.rules_machine.specs.DueItems.{handles}
 use Rattle.rules_machine.specs.Turns.{Turn, settles_since, ◌▷◌}
 use Rattle.rules_bodies.specs.declared.cursor.Cursor.{Cursor}
-use Rattle.calls_signals.specs.Premises.{CanSweep}
+use Rattle.kernel_state.specs.Caught.{CanSweep}
 use Rattle.kernel_leaps.proofs.Landing.{item_sweeps}
 use Rattle.kernel_leaps.proofs.Halfway.{all_state, all_told, fits_now, one_done}
 use Rattle.kernel_leaps.proofs.instant.do_instant.Goals as goal

@@ -1,8 +1,8 @@
 use Rattle.std.proofs.Common.{subst, sym, ◌∙◌}
 use Rattle.kernel_state.specs.Kernel.{Kernel}
-use Rattle.kernel_state.specs.Settled.{HavePriorities}
-use Rattle.kernel_state.specs.Stood.{StoodRight}
-use Rattle.kernel_state.proofs.Opened.{stood_opening}
+use Rattle.kernel_settling.specs.Settled.{HavePriorities}
+use Rattle.kernel_settling.specs.Stood.{StoodRight}
+use Rattle.kernel_settling.proofs.StoodAtFirst.{stood_opening}
 use Rattle.calls_table.specs.Calls.{objects_in}
 use Rattle.kernel_leaps.specs.Fits.{StaysFit}
 use Rattle.kernel_leaps.proofs.Opened.{script_fits}

@@ -1,8 +1,7 @@
 use Rattle.std.proofs.Common.{Bool, List, ap, arith, length, subst, sym, true, ℕ, ◌-◌, ◌<◌, ◌^◌, ◌≡◌, ◌≤◌, ◌∙◌}
 use Rattle.std.specs.Prelude.{◌&&◌}
-use Rattle.kernel_threads.specs.Running.{all_of}
+use Rattle.kernel_threads.specs.Running.{all_of, only_takes_time}
 use Rattle.script_code.specs.Fetched.{unit_of}
-use Rattle.kernel_threads.specs.Running.{only_takes_time}
 use Rattle.kernel_leaps.proofs.InUnit.{matters_of, not_blocked, not_quiet, quiet_of, so_quiet, takes_time}
 use Rattle.kernel_leaps.proofs.Passing.{begun_at, may_here}
 use Rattle.kernel_leaps.proofs.ThreadLeap.{acts, can_complete, has_leapt, in_time, leapt_state, leapt_told, may_be_swept, settled_stood}
@@ -58,19 +57,19 @@ pub end_tick-requires-clause-stood : goal.end_tick-requires-clause-stood
 end_tick-requires-clause-stood g c =
     let b = begun_at c.args.near c.args.t c.run_thread-ran.result c.args.p.now c.run_thread-ran.new.p c.requires.may c.run_thread-ran.ensures.ran c.run_thread-ran.ensures.state in
     settled_stood (c.args.near - all_of b.units) c.args.t c.run_thread-ran.result.ticks c.run_thread-ran.result.unit c.run_thread-ran.result.was_high b.behind c.run_thread-ran.new.p b.may b.long b.state b.unit b.high
-    c.complete_at_end.new.p c.complete_at_end.ensures.state c.settle.new.self c.settle.ensures.moves c.settle.ensures.fits
+    c.complete_at_end.new.p c.complete_at_end.ensures.state c.settle.new.p c.settle.ensures.moves c.settle.ensures.fits
 
 pub sweep-requires-clause-can : goal.sweep-requires-clause-can
 sweep-requires-clause-can g c =
     let b = begun_at c.args.near c.args.t c.run_thread-ran.result c.args.p.now c.run_thread-ran.new.p c.requires.may c.run_thread-ran.ensures.ran c.run_thread-ran.ensures.state in
     may_be_swept (c.args.near - all_of b.units) c.args.t c.run_thread-ran.result.ticks c.run_thread-ran.result.unit c.run_thread-ran.result.was_high b.behind c.run_thread-ran.new.p b.may b.long b.state b.unit b.high
-    c.complete_at_end.new.p c.complete_at_end.ensures.state c.settle.new.self c.settle.ensures.moves c.settle.ensures.fits c.end_tick.new.p c.end_tick.ensures.does.state
+    c.complete_at_end.new.p c.complete_at_end.ensures.state c.settle.new.p c.settle.ensures.moves c.settle.ensures.fits c.end_tick.new.p c.end_tick.ensures.does.state
 
 pub sweep-requires-clause-early : goal.sweep-requires-clause-early
 sweep-requires-clause-early g c =
     let b = begun_at c.args.near c.args.t c.run_thread-ran.result c.args.p.now c.run_thread-ran.new.p c.requires.may c.run_thread-ran.ensures.ran c.run_thread-ran.ensures.state in
     in_time (c.args.near - all_of b.units) c.args.t c.run_thread-ran.result.ticks c.run_thread-ran.result.unit c.run_thread-ran.result.was_high b.behind c.run_thread-ran.new.p b.may b.long b.state b.unit b.high
-    c.complete_at_end.new.p c.complete_at_end.ensures.state c.settle.new.self c.settle.ensures.moves c.settle.ensures.fits c.end_tick.new.p c.end_tick.ensures.does.state
+    c.complete_at_end.new.p c.complete_at_end.ensures.state c.settle.new.p c.settle.ensures.moves c.settle.ensures.fits c.end_tick.new.p c.end_tick.ensures.does.state
 
 -- ---- the leap
 
@@ -78,9 +77,9 @@ pub returns-clause-leapt : goal.returns-clause-leapt
 returns-clause-leapt g c =
     let b = begun_at c.args.near c.args.t c.run_thread-ran.result c.args.p.now c.run_thread-ran.new.p c.requires.may c.run_thread-ran.ensures.ran c.run_thread-ran.ensures.state in
     let state = leapt_state (c.args.near - all_of b.units) c.args.t c.run_thread-ran.result.ticks c.run_thread-ran.result.unit c.run_thread-ran.result.was_high b.behind c.run_thread-ran.new.p b.may b.long b.state b.unit b.high
-    c.complete_at_end.new.p c.complete_at_end.ensures.state c.settle.new.self c.settle.ensures.moves c.settle.ensures.fits c.end_tick.new.p c.end_tick.ensures.does.state c.sweep.new.p c.sweep.ensures.does.state in
+    c.complete_at_end.new.p c.complete_at_end.ensures.state c.settle.new.p c.settle.ensures.moves c.settle.ensures.fits c.end_tick.new.p c.end_tick.ensures.does.state c.sweep.new.p c.sweep.ensures.does.state in
     let tells = leapt_told (c.args.near - all_of b.units) c.args.t c.run_thread-ran.result.ticks c.run_thread-ran.result.unit c.run_thread-ran.result.was_high b.behind c.run_thread-ran.new.p b.may b.long b.state b.unit b.high
-    c.complete_at_end.new.p c.complete_at_end.ensures.state c.settle.new.self c.settle.ensures.moves c.settle.ensures.fits c.end_tick.new.p c.end_tick.ensures.does.state c.sweep.new.p c.sweep.ensures.does.state
+    c.complete_at_end.new.p c.complete_at_end.ensures.state c.settle.new.p c.settle.ensures.moves c.settle.ensures.fits c.end_tick.new.p c.end_tick.ensures.does.state c.sweep.new.p c.sweep.ensures.does.state
     g.K.Sink.text g.K.Sink.faults c.args.out.now c.complete_at_end.new.out c.end_tick.new.out c.sweep.new.out c.complete_at_end.ensures.told c.end_tick.ensures.does.told c.sweep.ensures.does.told in
     has_leapt g.K.Sink.text g.K.Sink.faults c.args.near c.args.t c.run_thread-ran.result c.args.p.now c.run_thread-ran.new.p c.sweep.new.p c.args.out.now c.sweep.new.out b state tells
 

@@ -4,12 +4,12 @@ use Rattle.rules_machine.specs.Ticks.{TickEnd, ends_tick, tick_end}
 use Rattle.rules_machine.proofs.Instants.{ends_tick_kept}
 use Rattle.rules_machine.proofs.Kept.{Kept}
 use Rattle.kernel_state.specs.Kernel.{Kernel, after, turn}
-use Rattle.kernel_state.specs.Settled.{HavePriorities}
-use Rattle.kernel_state.specs.Stood.{StoodRight}
-use Rattle.calls_table.proofs.Coming.Steps.{fewer_come}
+use Rattle.kernel_settling.specs.Settled.{HavePriorities}
+use Rattle.kernel_settling.specs.Stood.{StoodRight}
+use Rattle.calls_items.proofs.Coming.Steps.{fewer_come}
 use Rattle.kernel_leaps.proofs.ComingUnits.{ends_tick_fewer}
-use Rattle.kernel_state.proofs.SettleIs.{settles_after}
-use Rattle.kernel_state.proofs.StoodAgain.{stood_again}
+use Rattle.kernel_settling.proofs.SettleIs.{settles_after}
+use Rattle.kernel_settling.proofs.StoodAgain.{stood_again}
 use Rattle.kernel_leaps.proofs.TickEnding.{ends_with_nothing}
 use Rattle.kernel_leaps.proofs.tick_ends.end_tick.Goals as goal
 

@@ -1,0 +1,4 @@
+pub mod Same
+pub mod Delivered
+pub mod Generated
+pub mod Returned

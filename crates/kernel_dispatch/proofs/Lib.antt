@@ -1,0 +1,3 @@
+pub mod LastRun
+pub mod Reports
+pub mod Openings

@@ -1,8 +1,0 @@
-use Rattle.kernel_state.proofs.SettlingSteps.{placed_in_the_end, placing_on}
-use Rattle.kernel_state.proofs.parts.Parts.place_all.Goals as goal
-
-pub loop-t-preserved : goal.loop-t-preserved
-loop-t-preserved c = rw c.get-from.ensures.value (placing_on c.args.self.now c.loop-t.self c.place.new.self c.loop-t.from c.in-Some.t c.loop-t.invariant c.in-Some.ensures.next c.place.ensures)
-
-pub returns : goal.returns
-returns c = placed_in_the_end c.args.self.now c.loop-t.self c.loop-t.from c.loop-t.invariant c.in_default.ensures.next

@@ -1,9 +1,0 @@
-use Rattle.std.proofs.Common.{sym, ◌∙◌, arith}
-use Rattle.kernel_state.proofs.OneSettles.{no_items, one_settles}
-use Rattle.kernel_state.proofs.parts.Parts.settle_named.Goals as goal
-
-pub returns : goal.returns
-returns c =
-    c.settle_one.ensures
-    ∙ sym (one_settles c.args.self.now c.args.t c.requires.fits c.requires.first (c.is_named_alone.ensures c.if-not-is_named_alone.false) c.know_lists.ensures
-    (no_items c.args.self.now.direct (omega (arith, c.if-direct_count-ne0.false, c.direct_count.ensures))))
