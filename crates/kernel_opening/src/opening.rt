@@ -15,7 +15,6 @@ use kernel_state::{Objects, Parts, RunBy};
 use kernel_table::Table;
 use parts_ready::Ready;
 use parts_tracer::Names;
-use script_code::Code;
 use std::alloc::{AllocError, Global};
 use words_numbers::Tid;
 use words_script::{Decl, Kind, Script};
