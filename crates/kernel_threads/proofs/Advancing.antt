@@ -1,5 +1,5 @@
 -- A thread advances as its top frame does.
-use Rattle.std.proofs.Common.{◌≡◌, ◌≤◌, ◌<◌, ◌-◌, ◌∙◌, ℕ, Bool, List, [], ◌∷◌, false, ap, arith, get_or, length, refl, set, subst, sym}
+use Rattle.std.proofs.Common.{◌≡◌, ◌≤◌, ◌<◌, ◌-◌, ◌∙◌, ℕ, Bool, List, [], ◌∷◌, false, ap, arith, get_or, length, refl, set, subst, sym, take, zero, suc}
 use Rattle.std.specs.Prelude.{◌&&◌}
 use Rattle.rules_bodies.specs.declared.cursor.Cursor.{Cursor}
 use Rattle.rules_bodies.specs.declared.op.Op.{Op}
@@ -83,15 +83,14 @@ taken_by_top code most taken steps_before steps_now f g fs th is whole goes_on b
     let top_goes_on = subst (λ hs. th.is_ending && is_main (top_kind hs) ≡ false) is goes_on in
     subst (λ hs. HasTaken code most taken (record th { frames = hs }) (in_frame g fs th) steps_before steps_now) (sym is) (taken_by_frame code most taken steps_before steps_now f g fs th whole_top top_goes_on begun)
 
-pub taken_by_first : (code : NumberedBodies (List Op)) (most : ℕ) (taken : Taken) (steps_before steps_now : ℕ) (f g : Frame Cursor) (th : Thread Cursor) →
-    0 < length th.frames → f ≡ get_or th.frames 0 f → top_left th.frames ≡ 0 → is_at_end th ≡ false → HasBegun code most taken f g steps_before steps_now →
-    HasTaken code most taken th (record th { frames = set th.frames 0 g }) steps_before steps_now
-taken_by_first code most taken steps_before steps_now f g th = first th.frames refl
-  where
-    first : (fs : List (Frame Cursor)) → th.frames ≡ fs → 0 < length fs → f ≡ get_or fs 0 f → top_left th.frames ≡ 0 → is_at_end th ≡ false → HasBegun code most taken f g steps_before steps_now →
-        HasTaken code most taken th (record th { frames = set fs 0 g }) steps_before steps_now
-    first [] is some there whole goes_on begun = absurd (omega arith)
-    first (h ∷ fs) is some there whole goes_on begun = taken_by_top code most taken steps_before steps_now h g fs th is whole goes_on (subst (λ x. HasBegun code most taken x g steps_before steps_now) there begun)
+-- and so where its frames are the first of some items, of which one at least is there
+pub taken_by_first : (code : NumberedBodies (List Op)) (most : ℕ) (taken : Taken) (steps_before steps_now : ℕ) (f g : Frame Cursor) (count : ℕ) (items : List (Frame Cursor)) (th : Thread Cursor) →
+    0 < count → 0 < length items → th.frames ≡ take count items → top_left th.frames ≡ 0 → is_at_end th ≡ false → HasBegun code most taken (get_or items 0 f) g steps_before steps_now →
+    HasTaken code most taken th (record th { frames = take count (set items 0 g) }) steps_before steps_now
+taken_by_first code most taken steps_before steps_now f g zero items th more some is whole goes_on begun = absurd (omega arith)
+taken_by_first code most taken steps_before steps_now f g (suc n) [] th more some is whole goes_on begun = absurd (omega arith)
+taken_by_first code most taken steps_before steps_now f g (suc n) (h ∷ hs) th more some is whole goes_on begun =
+    taken_by_top code most taken steps_before steps_now h g (take n hs) th is whole goes_on begun
 
 -- and one with no frame takes its finish
 pub taken_by_none : (code : NumberedBodies (List Op)) (most steps : ℕ) (th : Thread Cursor) → length th.frames ≤ 0 → is_at_end th ≡ false →

@@ -14,3 +14,4 @@ pub mod Operands
 pub mod Handlers
 pub mod Signals
 pub mod RealDues
+pub mod Starting

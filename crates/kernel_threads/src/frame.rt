@@ -1,5 +1,5 @@
 //! The frames of a thread.
-ghost use Rattle.std.specs.Prelude.{◌≡◌, ◌≤◌};
+ghost use Rattle.std.specs.Prelude.{◌≡◌, ◌≤◌, [], length};
 ghost use Rattle.rules_machine.specs.Threads.{is_signal};
 ghost use Rattle.script_code.specs.Fetched.{unit_of};
 ghost use Rattle.rules_bodies.specs.Next.{register_limit, ticks_of};
@@ -8,6 +8,7 @@ ghost use Rattle.rules_machine.specs.Units.{frame_begins, next_of};
 ghost use Rattle.rules_flat_code.specs.Placed.{cursor_of};
 ghost use Rattle.rules_flat_code.specs.FlatBodies.{flat_bodies, place_of};
 ghost use Rattle.kernel_threads.specs.Passing.{HasBegun};
+ghost use Rattle.kernel_threads.specs.Starting.{frame_at_start};
 
 use crate::ran::Taken;
 use arrayvec::ArrayVec;
@@ -74,6 +75,39 @@ impl Frame {
             at,
             left: 0,
         }
+    }
+
+    // It is another frame now, at the start of its body. It is not made elsewhere and moved there.
+    #[inline(always)]
+    pub(crate) fn restart(&mut self, kind: FrameKind, body: BodyOf, number: u16, value: u64)
+        requires { value ≤ register_limit }
+        ensures { self.new ≡ frame_at_start kind body number value }
+    {
+        self.left = 0;
+        self.kind = kind;
+        self.body = body;
+        self.at.body = number;
+        self.at.pc = 0;
+        self.at.register = value;
+        self.at.result = Res::Zero;
+        self.at.value = value;
+        self.at.counts.clear();
+    }
+
+    // It is the same as the other, field by field, with no more passes of loops than that has.
+    #[inline(always)]
+    pub(crate) fn stand_as(&mut self, other: &Frame)
+        ensures { self.new ≡ other.now }
+    {
+        self.left = other.left;
+        self.kind = other.kind;
+        self.body = other.body;
+        self.at.body = other.at.body;
+        self.at.pc = other.at.pc;
+        self.at.register = other.at.register;
+        self.at.result = other.at.result;
+        self.at.value = other.at.value;
+        copy_counts(&mut self.at.counts, &other.at.counts);
     }
 
     pub fn left(&self) -> u64
@@ -182,6 +216,30 @@ impl Frame {
             }
             steps.tick();
         }
+    }
+}
+
+// The passes left of loops are the others.
+#[inline(always)]
+fn copy_counts(counts: &mut ArrayVec<u64, 16>, others: &ArrayVec<u64, 16>)
+    ensures { counts.new ≡ others.now }
+{
+    counts.clear();
+    if !others.is_empty() {
+        append_counts(counts, others.as_slice());
+    }
+}
+
+// The passes left of loops are those.
+#[inline(never)]
+fn append_counts(counts: &mut ArrayVec<u64, 16>, others: &[u64])
+    requires none { counts.old.items ≡ [] }
+    requires room { length others.now ≤ 16 }
+    ensures { counts.new.items ≡ others.now }
+{
+    match counts.try_extend_from_slice(others) {
+        Ok(()) => {}
+        Err(_) => unreachable!(),
     }
 }
 

@@ -17,7 +17,6 @@ ghost use Rattle.kernel_threads.specs.Passing.{HasTaken};
 ghost use Rattle.kernel_threads.specs.Plain.{joiner_of};
 
 use crate::frame::Frame;
-use crate::frames::{drop_top, put_on_top};
 use crate::ran::Taken;
 use crate::status::{Joiner, Phase};
 use crate::thread::Thread;
@@ -54,7 +53,7 @@ impl Thread {
     pub fn drop_frame(&mut self)
         ensures { self.new ≡ without_top self.old }
     {
-        drop_top(&mut self.frames);
+        self.frames.drop_top();
     }
 
     /// Whether a request acts in it as soon as it may.
@@ -110,7 +109,7 @@ impl Thread {
     pub fn kind(&self) -> FrameKind
         ensures { result ≡ top_kind self.now.frames }
     {
-        match self.frames.first() {
+        match self.frames.as_slice().first() {
             None => FrameKind::Main,
             Some(frame) => frame.kind(),
         }
@@ -144,7 +143,7 @@ impl Thread {
         requires room { length self.old.frames ≤ 2 }
         ensures { self.new ≡ on_top (new_frame (flat_bodies code.now) FrameKind.Cleanup (BodyOf.Cleanup u) 0) self.old }
     {
-        put_on_top(&mut self.frames, handler_frame(code, u));
+        self.frames.put_on_top(handler_frame(code, u));
     }
 
     // The next unit of its present body, past those that only take time and are over before so many ticks are. Each of these is a step.
@@ -155,14 +154,7 @@ impl Thread {
         requires goes_on { is_at_end self.old ≡ false }
         ensures { HasTaken code.now most result self.old self.new steps.old steps.new }
     {
-        match self.frames.get_mut(0) {
-            None => Taken {
-                passed: 0,
-                unit: Fetched::Finish,
-                left: 0,
-            },
-            Some(frame) => frame.begin(code, most, steps),
-        }
+        self.frames.begin(code, most, steps)
     }
 
     // With no cleanup handler left it ends its main body.
@@ -170,9 +162,7 @@ impl Thread {
         ensures unit { (code : NumberedBodies (List Op)) → unit_of code result ≡ (begins_finish self.old.frames self.old).unit }
         ensures thread { self.new ≡ (begins_finish self.old.frames self.old).thread }
     {
-        if let Some(frame) = self.frames.get_mut(0) {
-            frame.begin_finish();
-        }
+        self.frames.begin_finish();
         Fetched::Finish
     }
 
@@ -186,7 +176,7 @@ impl Thread {
         self.drop_cleanup();
         let mut frame = handler_frame(code, u);
         let unit = frame.begin_next(code);
-        put_on_top(&mut self.frames, frame);
+        self.frames.put_on_top(frame);
         unit
     }
 

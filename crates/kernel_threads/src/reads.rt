@@ -61,7 +61,7 @@ impl Thread {
     pub fn last_result(&self) -> Res
         ensures { result ≡ top_result self.now.frames }
     {
-        match self.frames.first() {
+        match self.frames.as_slice().first() {
             None => Res::Zero,
             Some(frame) => frame.result(),
         }
@@ -71,7 +71,7 @@ impl Thread {
     pub fn last_value(&self) -> u64
         ensures { result ≡ top_value self.now.frames }
     {
-        match self.frames.first() {
+        match self.frames.as_slice().first() {
             None => 0,
             Some(frame) => frame.value(),
         }
@@ -90,7 +90,7 @@ impl Thread {
         ensures cleanups { length self.now.cleanups ≤ 8 }
         ensures pending { IfSome self.now.server (λ (s : ServerState). length s.pending ≤ 16) }
     {
-        let _frames = self.frames.len();
+        let _frames = self.frames.as_slice();
         let _cleanups = self.cleanups.len();
         if let Some(server) = &self.server {
             server.know_few();

@@ -8,7 +8,6 @@ ghost use Rattle.kernel_threads.specs.Passing.{HasSpent};
 ghost use Rattle.kernel_threads.specs.Running.{HasRun, HasTime};
 
 use crate::ran::Ran;
-use crate::scheduling::charge_top;
 use crate::server::charge_server;
 use crate::thread::Thread;
 use parts_steps::Steps;
@@ -56,7 +55,7 @@ impl Thread {
         let taken = self.take(code, most, steps);
         let ticks = (most - taken.passed).min(taken.left).max(1);
         self.ticks += taken.passed + ticks;
-        charge_top(&mut self.frames, taken.left, ticks);
+        self.frames.charge(taken.left, ticks);
         Ran {
             passed: taken.passed,
             unit: taken.unit,

@@ -8,10 +8,8 @@ ghost use Rattle.rules_leaps.specs.Quiet.{after_ticks, frames_after};
 ghost use Rattle.kernel_threads.specs.Ends.{end_of};
 
 use crate::ends::TickEnd;
-use crate::frame::Frame;
 use crate::server::new_server;
 use crate::thread::Thread;
-use arrayvec::ArrayVec;
 use words_numbers::{Params, Prio, Tick};
 use words_script::Policy;
 
@@ -119,16 +117,5 @@ fn policy_at(policy: &Policy, p: Prio) -> Policy
                 None => unreachable!(),
             }
         }
-    }
-}
-
-/// The ticks of the top frame, of which so many are left, are k less.
-#[inline(always)]
-pub(crate) fn charge_top(frames: &mut ArrayVec<Frame, 3>, left: u64, k: u64)
-    requires { left ≡ top_left frames.old.items }
-    ensures { frames.new.items ≡ frames_after k frames.old.items }
-{
-    if let Some(frame) = frames.get_mut(0) {
-        frame.set_left(left.saturating_sub(k));
     }
 }

@@ -13,8 +13,6 @@ ghost use Rattle.kernel_threads.specs.Handlers.{HasHandler};
 ghost use Rattle.kernel_threads.specs.Plain.{wait_of};
 ghost use Rattle.kernel_threads.specs.Signals.{runs_handlers, signals_awaited, signals_in};
 
-use crate::frame::Frame;
-use crate::frames::put_on_top;
 use crate::status::{Phase, Wait};
 use crate::thread::Thread;
 use rules_machine::{BodyOf, FrameKind};
@@ -52,19 +50,6 @@ impl Wait {
             _ => SigSet::new(0),
         }
     }
-}
-
-// The frame of a signal's handler, at its beginning.
-#[tactic(auto, using(crate::proofs::Endings::number_known))]
-fn catcher_frame(code: &Code, h: ObjId, value: u64) -> Frame
-    requires handler { HasHandler code.now h }
-    ensures { result ≡ new_frame (flat_bodies code.now) FrameKind.Signal (BodyOf.Handler h) (capped value) }
-{
-    Frame::new(
-        FrameKind::Signal,
-        BodyOf::Handler(h),
-        code.start(code.handler_body(h), value.min(REGISTER_LIMIT)),
-    )
 }
 
 // The ticks that were left of a sleep.
@@ -153,6 +138,11 @@ impl Thread {
         requires room { length self.old.frames ≤ 2 }
         ensures { self.new ≡ on_top (new_frame (flat_bodies code.now) FrameKind.Signal (BodyOf.Handler h) (capped value)) self.old }
     {
-        put_on_top(&mut self.frames, catcher_frame(code, h, value));
+        self.frames.begin_on_top(
+            FrameKind::Signal,
+            BodyOf::Handler(h),
+            code.handler_body(h),
+            value.min(REGISTER_LIMIT),
+        );
     }
 }

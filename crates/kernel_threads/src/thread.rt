@@ -22,6 +22,7 @@ ghost use Rattle.words_trace.specs.declared.report.Report.{Report};
 ghost use Rattle.rules_machine.specs.Machine.{budget_of, report_of};
 
 use crate::frame::Frame;
+use crate::frames::Frames;
 use crate::server::{budget_of, new_server};
 use crate::status::{Joiner, Phase, Wait, Waiting};
 use arrayvec::ArrayVec;
@@ -44,8 +45,7 @@ pub struct Thread {
     pub(crate) is_enabled: bool,
     pub(crate) is_ending: bool,
     pub(crate) phase: Phase,
-    // the top frame first
-    pub(crate) frames: ArrayVec<Frame, 3>,
+    pub(crate) frames: Frames,
     // its wait; read only where it is blocked
     pub(crate) waiting: Waiting,
     // when it starts by itself; read only where it is dormant
@@ -70,7 +70,7 @@ impl Model for Thread {
     ghost use Rattle.rules_flat_code.specs.Placed.{ArePlaced};
     ghost use Rattle.kernel_threads.specs.Plain.{joiner_of, status_in};
 
-    ghost view = { λ t. record { status = status_in t.phase t.start t.waiting; policy = t.policy; server = t.server; slice = t.slice; ticks = t.ticks; mask = t.mask; frames = t.frames.items; is_requested = t.is_requested; is_enabled = t.is_enabled; is_ending = t.is_ending; cleanups = t.cleanups.items; exit_value = t.exit_value; joiner = joiner_of t.joiner } };
+    ghost view = { λ t. record { status = status_in t.phase t.start t.waiting; policy = t.policy; server = t.server; slice = t.slice; ticks = t.ticks; mask = t.mask; frames = t.frames; is_requested = t.is_requested; is_enabled = t.is_enabled; is_ending = t.is_ending; cleanups = t.cleanups.items; exit_value = t.exit_value; joiner = joiner_of t.joiner } };
 
     ghost use Rattle.kernel_threads.specs.Held.{IsHeld};
 
@@ -101,7 +101,7 @@ impl Thread {
             slice: 0,
             ticks: 0,
             mask: SigSet::new(0),
-            frames: ArrayVec::new(),
+            frames: Frames::new(),
             is_requested: false,
             is_enabled: true,
             is_ending: false,
@@ -143,9 +143,7 @@ impl Thread {
     pub fn answer(&mut self, res: Res, value: u64)
         ensures { self.new ≡ answered res value self.old }
     {
-        if let Some(frame) = self.frames.get_mut(0) {
-            frame.answer(res, value);
-        }
+        self.frames.answer(res, value);
     }
 
     /// It is runnable again, with its answer and a new round robin interval.
@@ -188,8 +186,7 @@ impl Thread {
         self.phase = Phase::Runnable;
         self.slice = 0;
         self.mask = mask;
-        self.frames.clear();
-        self.frames.push(main);
+        self.frames.begin_with(main);
         self.server = new_server(&self.policy, now);
     }
 
@@ -257,7 +254,7 @@ impl Thread {
     pub fn catches_signal(&self) -> bool
         ensures { result ≡ catches_signal self.now }
     {
-        match self.frames.first() {
+        match self.frames.as_slice().first() {
             None => false,
             Some(frame) => frame.is_signal(),
         }
@@ -268,7 +265,7 @@ impl Thread {
         ensures value { result ≡ top_register self.now.frames }
         ensures limit { result ≤ register_limit }
     {
-        match self.frames.first() {
+        match self.frames.as_slice().first() {
             None => 0,
             Some(frame) => frame.register(),
         }
@@ -290,7 +287,7 @@ impl Thread {
     pub fn left(&self) -> u64
         ensures { result ≡ top_left self.now.frames }
     {
-        match self.frames.first() {
+        match self.frames.as_slice().first() {
             None => 0,
             Some(frame) => frame.left(),
         }

@@ -35,6 +35,6 @@ returns-clause-spent g c =
       same = same;
       ticks = omega (arith, c.max-ticks.ensures, c.min.ensures, c.take-taken.ensures.left);
       within = omega arith;
-      thread = rw (← c.self.view_is, ticks, slice, server, c.charge_top.ensures) refl;
-      complete = rw c.charge_top.ensures (complete_is c.take-taken.result.left c.max-ticks.result c.self.inside.frames.items (c.take-taken.ensures.left ∙ sym (ap (λ t. top_left t.frames) c.self.view_is)));
+      thread = rw (← c.self.view_is, ticks, slice, server, c.charge.ensures) refl;
+      complete = rw c.charge.ensures (complete_is c.take-taken.result.left c.max-ticks.result c.self.inside.frames (c.take-taken.ensures.left ∙ sym (ap (λ t. top_left t.frames) c.self.view_is)));
     }
