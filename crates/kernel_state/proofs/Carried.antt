@@ -1,6 +1,7 @@
 -- What a change of threads and mutexes leaves of the ties, and who is named with it.
-use Rattle.std.proofs.Common.{◌≡◌, ◌≢◌, ◌<◌, ◌≤◌, ◌∙◌, ℕ, true, false, List, None, Option, Some, ap, arith, length, refl, subst, sym}
+use Rattle.std.proofs.Common.{◌≡◌, ◌≢◌, ◌<◌, ◌≤◌, ◌∙◌, inl, inr, ℕ, true, false, List, None, Option, Some, ap, arith, length, refl, subst, sym}
 use Rattle.std.specs.Prelude.{IfSome, ◌==◌}
+use Rattle.std.proofs.lemmas.Bool.Decides.{eqb_tells}
 use Rattle.rules_bodies.specs.declared.cursor.Cursor.{Cursor}
 use Rattle.rules_bodies.specs.declared.op.Op.{Op}
 use Rattle.rules_bodies.specs.Flat.{NumberedBodies}
@@ -111,6 +112,17 @@ module _ (old new : Table) (lists : List (List ℕ)) (before : List ℕ) (t : �
   pub told_thread : (after : List ℕ) (r : Option ℕ) → ((th : Thread Cursor) → is_runnable th.status ≡ true → is_runnable (f th).status ≡ true) → TakesIn r before after →
       TellsMoved old new r → OthersStand after new lists
   told_thread after r goes takes told = told_named old new lists before are (as_many old new t f is_new) after r (runs_on goes) takes told
+
+  -- the same where it runs on if it ran
+  pub told_itself : (after : List ℕ) (r : Option ℕ) → (is_runnable (thread_at old t).status ≡ true → is_runnable (thread_at new t).status ≡ true) → TakesIn r before after →
+      TellsMoved old new r → OthersStand after new lists
+  told_itself after r goes takes told = told_named old new lists before are (as_many old new t f is_new) after r each takes told
+    where
+      each : RunOn old new
+      each u runs = elim (eqb_tells u t) [
+        | inl same ↦ rw same.1 (goes (rw same.1 at runs))
+        | inr other ↦ rw (others_same u other.1) runs
+      ]
 
   -- it is named itself
   pub self_thread : (mid after : List ℕ) (r : Option ℕ) → t < length old.threads → Turns t true before mid → TakesIn r mid after → IfSome r (λ u. u < length new.threads) →

@@ -30,6 +30,13 @@ runs_known [] t h = absurd cc
 runs_known (x ∷ xs) zero h = omega arith
 runs_known (x ∷ xs) (suc t) h = let lt = runs_known xs t h in omega (arith, lt)
 
+-- a thread that is blocked cannot run
+pub blocked_rests : {X : Type 0} (status : Status) → is_blocked status ≡ true → is_runnable status ≡ true → X
+blocked_rests (dormant at) h runs = not_off h
+blocked_rests runnable h runs = not_off h
+blocked_rests (blocked w) h runs = not_off runs
+blocked_rests ended h runs = not_off h
+
 -- a thread that can run waits for nothing
 pub awaits_none : (m : Machine Cursor) (t : ℕ) → can_run m t ≡ true → mutex_awaited_by (thread_at m t) ≡ None
 awaits_none m t runs = rw (running_waits (thread_at m t).status runs) refl

@@ -49,7 +49,7 @@ impl Parts {
         self.named.take_in(&moved);
     }
 
-    // A blocked thread waits on in its call, for that mutex.
+    // A blocked thread waits on in its call, for that mutex. It stands on no list, so that it is not named.
     #[inline(always)]
     #[tactic(auto, using(crate::proofs::Waits::can_await))]
     pub(crate) fn keep_blocked(&mut self, t: Tid, k: ObjId, how: CondEnd, serial: u64)
@@ -59,7 +59,6 @@ impl Parts {
         requires may { CanWait self.old.machine t (Some k) }
         ensures { self.new ≡ after (changes t (put_to_wait (record { wait = for_mutex_again k how; serial = serial; due = None; call = call_in (waiting_at self.old.machine t) }))) self.old }
     {
-        self.named.add(t);
         let moved = self.table.block_again(t, k, how, serial);
         self.named.take_in(&moved);
     }

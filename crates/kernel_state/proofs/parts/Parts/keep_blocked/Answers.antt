@@ -1,12 +1,12 @@
-use Rattle.std.proofs.Common.{Some, arith}
+use Rattle.std.proofs.Common.{Some}
 use Rattle.rules_bodies.specs.declared.cursor.Cursor.{Cursor}
 use Rattle.rules_machine.specs.State.{Thread}
 use Rattle.rules_machine.specs.Threads.{thread_in}
 use Rattle.rules_machine.specs.Waking.{put_to_wait}
 use Rattle.kernel_table.proofs.Runs.{again}
-use Rattle.kernel_state.proofs.Carried.{as_many, fit, self_thread, tied_again, told_keeps, told_there}
+use Rattle.kernel_state.proofs.Carried.{as_many, fit, tied_again, told_itself, told_there}
 use Rattle.kernel_state.proofs.StillModest.{waits_modestly}
-use Rattle.kernel_state.proofs.Waits.{can_await}
+use Rattle.kernel_state.proofs.Waits.{blocked_rests, can_await}
 use Rattle.kernel_state.specs.View.{kernel_of}
 use Rattle.kernel_state.proofs.parts.Parts.keep_blocked.Goals as goal
 
@@ -15,11 +15,10 @@ invariant_of-self c =
     let s = c.self.inside in
     let w = c.block_again-moved in
     let f : Thread Cursor → Thread Cursor = put_to_wait (again c.args.k c.args.how c.args.serial (thread_in s.table.threads c.args.t)) in
-    let known = rw (← c.self.view_is) at c.requires.known in
     record {
       tied = tied_again s.names s.code s.ready.threads s.table.threads w.new.self.threads s.direct (as_many s.table w.new.self c.args.t f w.ensures.table) c.self.invariant.tied;
-      stand = self_thread s.table w.new.self s.ready.lists s.named.bits c.args.t f w.ensures.table c.self.invariant.stand c.add.new.self.bits c.take_in.new.self.bits w.result
-          (omega (arith, known, c.self.invariant.tied.named)) c.add.ensures c.take_in.ensures (told_there s.table w.new.self w.result w.ensures.moved) (told_keeps c.args.t s.table w.new.self w.result w.ensures.moved);
+      stand = told_itself s.table w.new.self s.ready.lists s.named.bits c.args.t f w.ensures.table c.self.invariant.stand c.take_in.new.self.bits w.result
+          (λ runs. blocked_rests (thread_in s.table.threads c.args.t).status (rw (← c.self.view_is) at c.requires.blocked) runs) c.take_in.ensures w.ensures.moved;
       modest = waits_modestly s.instant s.clock s.table w.new.self c.args.t (again c.args.k c.args.how c.args.serial (thread_in s.table.threads c.args.t)) w.ensures.table tt c.self.invariant.modest;
     }
 
