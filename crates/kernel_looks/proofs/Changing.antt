@@ -177,13 +177,9 @@ pub line_some : (about line : List ℕ) → (length line ≡ 0 → ⊥) → line
 line_some about [] some = absurd (some refl)
 line_some about (c ∷ line) some = refl
 
-pub in_front : (number rest : List ℕ) → ((number ++ []) ++ (32 ∷ [])) ++ rest ≡ number ++ (32 ∷ rest)
-in_front number rest = ap (λ (t : List ℕ). (t ++ (32 ∷ [])) ++ rest) (append-nil number) ∙ append_assoc number (32 ∷ []) rest
-
 pub line_changes : (now : ℕ) (about before line : List ℕ) → bytes_eq (behind_subject about before) (behind_subject about line) ≡ false
-    → ((decimal now ++ []) ++ (32 ∷ [])) ++ line_or_subject about line ≡ changed_line now about before line
-line_changes now about before line e =
-    in_front (decimal now) (line_or_subject about line) ∙ sym (ap (λ (x : Bool). if x then [] else decimal now ++ (32 ∷ line_or_subject about line)) e)
+    → decimal now ++ (32 ∷ line_or_subject about line) ≡ changed_line now about before line
+line_changes now about before line e = sym (ap (λ (x : Bool). if x then [] else decimal now ++ (32 ∷ line_or_subject about line)) e)
 
 -- where these are the texts of facts
 pub texts_are : (now : ℕ) (subjects before lines : List (List ℕ)) (decls : List Decl) (old new : List Fact) → HaveSameSubjects decls old new

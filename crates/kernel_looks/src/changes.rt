@@ -1,11 +1,10 @@
 //! The line of a fact that changes.
-ghost use Rattle.std.specs.Prelude.{◌≡◌, length};
+ghost use Rattle.std.specs.Prelude.{◌≡◌, ◌∷◌, ◌++◌, decimal, length};
 ghost use Rattle.script_printer.specs.Puts.{Puts};
 ghost use Rattle.kernel_texts.specs.Changed.{behind_subject, changed_line, line_or_subject};
 
 use parts_io::Sink;
 use script_printer::Printer;
-use script_writer::Word::Number;
 
 // What stands behind the subject in a line, without its end; nothing where there is no line.
 fn behind_subject<'a>(about: &[u8], line: &'a [u8]) -> &'a [u8]
@@ -16,15 +15,15 @@ fn behind_subject<'a>(about: &[u8], line: &'a [u8]) -> &'a [u8]
     &line[start..end]
 }
 
-// Prints a line, or the subject alone where there is none.
-fn put_line_or_subject<K: Sink>(out: &mut Printer<'_, K>, about: &[u8], line: &[u8])
-    ensures { Puts K.text K.faults out.old out.new (line_or_subject about.now line.now) }
+// Prints a number and a line, or the subject alone where there is no line.
+fn put_numbered_line<K: Sink>(out: &mut Printer<'_, K>, now: u64, about: &[u8], line: &[u8])
+    ensures { Puts K.text K.faults out.old out.new (decimal now ++ 32 ∷ line_or_subject about.now line.now) }
 {
     if line.is_empty() {
-        out.text(about);
+        out.numbered(now, about);
         out.end();
     } else {
-        out.text(line);
+        out.numbered(now, line);
     }
 }
 
@@ -41,7 +40,5 @@ pub(crate) fn put_changed_line<K: Sink>(
     if behind_subject(about, before) == behind_subject(about, line) {
         return;
     }
-    out.begin(&[Number(now)]);
-    out.text(b" ");
-    put_line_or_subject(out, about, line);
+    put_numbered_line(out, now, about, line);
 }

@@ -1,5 +1,5 @@
 -- Texts in rooms of their own: all rooms stay as large as they are.
-use Rattle.std.proofs.Common.{List, [], ap, length, refl, suc, zero, ℕ, ◌++◌, ◌∷◌, ◌≡◌, ◌∙◌, sym}
+use Rattle.std.proofs.Common.{List, [], ap, refl, suc, zero, ℕ, ◌++◌, ◌∷◌, ◌≡◌, ◌∙◌}
 use Rattle.std.specs.Prelude.{map, slice_set}
 use Rattle.std.proofs.lemmas.List.{map-set}
 use Rattle.parts_texts.specs.Slots.{HaveRoomsOf, Held, no_texts, text_in}

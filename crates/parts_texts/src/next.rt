@@ -1,5 +1,7 @@
 //! One text that is written piece by piece.
 ghost use Rattle.std.specs.Prelude.{◌≡◌, ◌≤◌, ◌<◌, ◌^◌, ◌+◌, ◌++◌, ◌∷◌, [], IfOk, IsOk, Some, length};
+ghost use Rattle.parts_io.specs.Bytes.{WritesAll};
+ghost use Rattle.parts_io.specs.Causes.{HasCause};
 
 use parts_io::{Failed, Sink};
 use std::alloc::{AllocError, Global};
@@ -61,6 +63,19 @@ impl NextText {
         self.text.extend_from_slice(text).unwrap();
     }
 
+    // Appends the bytes for which there is room, and fails.
+    #[inline(never)]
+    fn write_part(&mut self, bytes: &[u8]) -> Result<(), Failed>
+        requires { self.old.room < length self.old.text + length bytes.now }
+        ensures written { WritesAll (Some (self.old.room ∷ self.old.text)) (Some (self.new.room ∷ self.new.text)) result bytes.now }
+        ensures cause { HasCause self.old.faults self.new.faults result }
+    {
+        let left = self.room - self.text.len();
+        self.text.extend_from_slice(&bytes[..left]).unwrap();
+        self.faults = self.faults.saturating_add(1);
+        Err(Failed)
+    }
+
     /// Costs nothing when it runs: where a write has failed the room is used up.
     pub fn know_use(&self)
         ensures { 0 < self.now.faults → length self.now.text ≡ self.now.room }
@@ -85,11 +100,8 @@ impl Sink for NextText {
 
         ensures roomy { length self.old.text + length bytes.now ≤ self.old.room → IsOk result }
     {
-        let left = self.room - self.text.len();
-        if bytes.len() > left {
-            self.text.extend_from_slice(&bytes[..left]).unwrap();
-            self.faults = self.faults.saturating_add(1);
-            return Err(Failed);
+        if bytes.len() > self.room - self.text.len() {
+            return self.write_part(bytes);
         }
         self.text.extend_from_slice(bytes).unwrap();
         Ok(())

@@ -5,7 +5,7 @@ use Rattle.script_lex.specs.Joined.{after_blanks, joined_words}
 use Rattle.script_writer.specs.Line.{AreShort, IsShort, spelled, total_width, width}
 use Rattle.script_writer.specs.declared.line.Word.{Word}
 
-width_more : (words : List Word) (i : ℕ) (w d : Word) → i < length words → w ≡ get_or words i d → total_width (take (suc i) words) ≡ total_width (take i words) + width w
+pub width_more : (words : List Word) (i : ℕ) (w d : Word) → i < length words → w ≡ get_or words i d → total_width (take (suc i) words) ≡ total_width (take i words) + width w
 width_more [] i w d lt is = absurd (omega arith)
 width_more (x ∷ words) zero w d lt is = let same = ap width is in omega (arith, same)
 width_more (x ∷ words) (suc i) w d lt is = let rest = width_more words i w d (omega arith) is in omega (arith, rest)
@@ -58,3 +58,16 @@ joined_within (x ∷ words) w d lt is short within =
     let first : length (spelled x) < width x = subst (λ (v : Word). length (spelled v) < width v) is short in
     let both = length-append (spelled x) (after_blanks (map spelled words)) in
     omega (arith, first, behind, both)
+
+-- the widths that are left, with that of the next word apart
+pub width_left : (words : List Word) (i : ℕ) (w d : Word) → i < length words → w ≡ get_or words i d → total_width (drop i words) ≡ width w + total_width (drop (suc i) words)
+width_left [] i w d lt is = absurd (omega arith)
+width_left (x ∷ words) zero w d lt is = let same = ap width is in omega (arith, same)
+width_left (x ∷ words) (suc i) w d lt is = width_left words i w d (omega arith) is
+
+-- behind a first word the others are left whole
+pub rest_is : (words : List Word) → 0 < length words → take (length words - 1) (drop 1 words) ≡ drop 1 words
+rest_is [] lt = absurd (omega arith)
+rest_is (x ∷ words) lt =
+    let rest : length (x ∷ words) - 1 ≡ length words = omega arith in
+    ap (λ (n : ℕ). take n words) rest ∙ take-length words

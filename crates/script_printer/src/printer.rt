@@ -1,10 +1,12 @@
-//! A printer writes words, each by a write of its own.
+//! A printer writes words, those of one call mostly at once.
 ghost use Rattle.std.specs.Prelude.{◌≡◌, ◌<◌, ◌≤◌, ◌+◌, ◌∷◌, ◌++◌, [], decimal, false, length, map};
 ghost use Rattle.script_lex.specs.Joined.{after_blanks, joined_words};
 ghost use Rattle.script_writer.specs.Line.{AreShort, IsShort, line_text, spelled, total_width, width};
 ghost use Rattle.script_printer.specs.Puts.{Puts};
 
+use crate::row::{ROOM, have_room, place_line, place_number, place_words};
 use itoa::Buffer;
+use parts_bytes::{place_bytes, place_word};
 use parts_io::Sink;
 use script_writer::{Word, word_text};
 
@@ -55,6 +57,29 @@ impl<'a, K: Sink> Printer<'a, K> {
         self.put(bytes);
     }
 
+    // Prints a number, a blank and bytes as they are, by writes of their own.
+    fn put_numbered(&mut self, number: u64, bytes: &[u8])
+        ensures { Puts K.text K.faults self.old self.new (decimal number ++ 32 ∷ bytes.now) }
+    {
+        self.put_number(number);
+        self.put(b" ");
+        self.put(bytes);
+    }
+
+    /// Prints a number, a blank and bytes as they are: mostly at once.
+    pub fn numbered(&mut self, number: u64, bytes: &[u8])
+        ensures { Puts K.text K.faults self.old self.new (decimal number ++ 32 ∷ bytes.now) }
+    {
+        if bytes.len() + 21 > ROOM {
+            return self.put_numbered(number, bytes);
+        }
+        let mut row = [0; ROOM];
+        let end = place_number(&mut row, number);
+        let end = place_word(&mut row, end, b" ");
+        let end = place_bytes(&mut row, end, bytes);
+        self.put(&row[..end]);
+    }
+
     // Prints a number.
     fn put_number(&mut self, number: u64)
         ensures text { Puts K.text K.faults self.old self.new (decimal number) }
@@ -78,8 +103,8 @@ impl<'a, K: Sink> Printer<'a, K> {
         }
     }
 
-    /// Prints more words of a line, with a blank before each.
-    pub fn words(&mut self, words: &[Word<'_>])
+    // Prints words, each by writes of its own, with a blank before each.
+    fn put_each(&mut self, words: &[Word<'_>])
         requires { AreShort words.now }
         ensures text { Puts K.text K.faults self.old self.new (after_blanks (map spelled words.now)) }
         ensures short { length (after_blanks (map spelled words.now)) ≤ total_width words.now }
@@ -90,16 +115,44 @@ impl<'a, K: Sink> Printer<'a, K> {
         }
     }
 
-    /// Prints the first words of a line, with one blank between them.
-    pub fn begin(&mut self, words: &[Word<'_>])
+    /// Prints more words of a line, with a blank before each.
+    pub fn words(&mut self, words: &[Word<'_>])
+        requires { AreShort words.now }
+        ensures text { Puts K.text K.faults self.old self.new (after_blanks (map spelled words.now)) }
+        ensures short { length (after_blanks (map spelled words.now)) ≤ total_width words.now }
+    {
+        if words.is_empty() || !have_room(words) {
+            return self.put_each(words);
+        }
+        let mut row = [0; ROOM];
+        let end = place_words(&mut row, 0, words);
+        self.put(&row[..end]);
+    }
+
+    // Prints the first words of a line, each by writes of its own.
+    fn begin_with_each(&mut self, words: &[Word<'_>])
         requires { AreShort words.now }
         ensures text { Puts K.text K.faults self.old self.new (joined_words (map spelled words.now)) }
         ensures short { length (joined_words (map spelled words.now)) ≤ total_width words.now }
     {
         if let [first, rest @ ..] = words {
             self.put_word(first);
-            self.words(rest);
+            self.put_each(rest);
         }
+    }
+
+    /// Prints the first words of a line, with one blank between them.
+    pub fn begin(&mut self, words: &[Word<'_>])
+        requires { AreShort words.now }
+        ensures text { Puts K.text K.faults self.old self.new (joined_words (map spelled words.now)) }
+        ensures short { length (joined_words (map spelled words.now)) ≤ total_width words.now }
+    {
+        if !have_room(words) {
+            return self.begin_with_each(words);
+        }
+        let mut row = [0; ROOM];
+        let end = place_line(&mut row, words);
+        self.put(&row[..end]);
     }
 
     /// Prints the end of a line.
@@ -115,7 +168,13 @@ impl<'a, K: Sink> Printer<'a, K> {
         ensures text { Puts K.text K.faults self.old self.new (line_text (map spelled words.now)) }
         ensures short { length (line_text (map spelled words.now)) ≤ total_width words.now + 1 }
     {
-        self.begin(words);
-        self.end();
+        if !have_room(words) {
+            self.begin_with_each(words);
+            return self.end();
+        }
+        let mut row = [0; ROOM];
+        let end = place_line(&mut row, words);
+        let end = place_word(&mut row, end, b"\n");
+        self.put(&row[..end]);
     }
 }

@@ -13,8 +13,29 @@ fn a_line_in_pieces(rt: HostRuntime) -> Result<(), Fail> {
     out.words(&[Name(b"a"), Name(b"b")]);
     out.end();
     out.line(&[Keyword(b"killed"), Signal(7)]);
+    out.numbered(18, b"list 5\n");
     assert!(rt; !out.failed());
-    assert_eq!(rt; sink.text(), b"list 5 a b\nkilled rt7\n".as_slice());
+    assert_eq!(rt;
+        sink.text(),
+        b"list 5 a b\nkilled rt7\n18 list 5\n".as_slice()
+    );
+    Ok(())
+}
+
+#[test]
+fn what_has_no_room_in_a_row(rt: HostRuntime) -> Result<(), Fail> {
+    let alloc = rt.alloc();
+    let mut sink = MemSink::open(alloc, 1000, Vec::new(alloc))?;
+    let mut out = Printer::new(&mut sink);
+    out.line(&[Name(b"a"); 8]);
+    out.begin(&[Name(b"b"); 8]);
+    out.words(&[Name(b"c"); 8]);
+    out.end();
+    out.numbered(7, &[b'd'; 236]);
+    assert!(rt; !out.failed());
+    let lines = b"a a a a a a a a\nb b b b b b b b c c c c c c c c\n7 ";
+    assert_eq!(rt; &sink.text()[..50], lines.as_slice());
+    assert_eq!(rt; sink.text().len(), 286);
     Ok(())
 }
 
@@ -23,7 +44,9 @@ fn nothing_behind_a_failure(rt: HostRuntime) -> Result<(), Fail> {
     let alloc = rt.alloc();
     let mut sink = MemSink::open(alloc, 6, Vec::new(alloc))?;
     let mut out = Printer::new(&mut sink);
-    out.line(&[Keyword(b"list"), Number(5)]);
+    out.begin(&[Keyword(b"list"), Number(5)]);
+    assert!(rt; !out.failed());
+    out.end();
     assert!(rt; out.failed());
     out.line(&[Keyword(b"x")]);
     assert_eq!(rt; sink.text(), b"list 5".as_slice());

@@ -1,4 +1,4 @@
-use Rattle.std.proofs.Common.{ap, arith, subst, sym, suc, ℕ, ◌+◌, ◌≡◌, ◌∙◌}
+use Rattle.std.proofs.Common.{ap, arith, subst, sym, suc, ◌+◌, ◌≡◌, ◌∙◌}
 use Rattle.std.specs.Prelude.{List, map}
 use Rattle.parts_texts.specs.Slots.{HaveRoomsOf, no_texts, text_in}
 use Rattle.parts_texts.specs.Texts.{Next}

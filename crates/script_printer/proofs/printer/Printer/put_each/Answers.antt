@@ -2,7 +2,7 @@ use Rattle.std.proofs.Common.{add-one, arith, ◌≡◌, length}
 use Rattle.std.proofs.Math.Seq.{take-length}
 use Rattle.script_printer.proofs.Puts.{puts_both}
 use Rattle.script_printer.proofs.Words.{blanks_more, short_here, within_more}
-use Rattle.script_printer.proofs.printer.Printer.words.Goals as goal
+use Rattle.script_printer.proofs.printer.Printer.put_each.Goals as goal
 
 pub put_word-requires : goal.put_word-requires
 put_word-requires g c =

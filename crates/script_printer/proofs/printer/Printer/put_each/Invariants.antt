@@ -2,7 +2,7 @@ use Rattle.std.proofs.Common.{◌≤◌, drop, length, map, take}
 use Rattle.script_lex.specs.Joined.{after_blanks}
 use Rattle.script_writer.specs.Line.{AreShort, spelled, total_width}
 use Rattle.script_printer.specs.Puts.{Puts}
-use Rattle.script_printer.proofs.printer.Printer.words.Given as goal
+use Rattle.script_printer.proofs.printer.Printer.put_each.Given as goal
 
 abbrev pub invariant-loop-word : goal.invariant-loop-word
 invariant-loop-word g l = record {
