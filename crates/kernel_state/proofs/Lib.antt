@@ -3,6 +3,7 @@ pub mod Does
 pub mod InRange
 pub mod SettlingSteps
 pub mod OneSettles
+pub mod TwoSettle
 pub mod SettledSame
 pub mod SweepNothing
 pub mod SettleIs
