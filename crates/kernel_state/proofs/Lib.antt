@@ -3,7 +3,6 @@ pub mod Does
 pub mod InRange
 pub mod SettlingSteps
 pub mod OneSettles
-pub mod TwoSettle
 pub mod SettledSame
 pub mod SweepNothing
 pub mod SettleIs

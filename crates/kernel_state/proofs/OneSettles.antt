@@ -17,7 +17,7 @@ use Rattle.kernel_state.proofs.SettleIs.{runs_known}
 use Rattle.kernel_state.proofs.SettlingSteps.{left_in_the_end, leaving_on, placed_in_the_end, placing_on}
 
 -- a thread that stands where it stood stands as right as before
-pub as_before : (m : Machine Cursor) (u : ℕ) (lists new : List (List ℕ)) → prio_of u new ≡ prio_of u lists → StandsRight (table_in m) lists u → StandsRight (table_in m) new u
+as_before : (m : Machine Cursor) (u : ℕ) (lists new : List (List ℕ)) → prio_of u new ≡ prio_of u lists → StandsRight (table_in m) lists u → StandsRight (table_in m) new u
 as_before m u lists new same was = record {
   runs = λ p e. was.runs p (sym same ∙ e);
   there = λ p e. was.there p (sym same ∙ e);
@@ -50,7 +50,7 @@ moved_right m t u lists fits every right = by_case (can_run m t) refl
         ]
 
 -- the lists of a settling, from those that its three steps leave
-pub lists_of : (k : Kernel) (left put : List (List ℕ)) → left_runnable k.machine ≡ left → placed_all k.machine (thread_numbers k.machine) (moved_all k.machine k.direct left) ≡ put →
+lists_of : (k : Kernel) (left put : List (List ℕ)) → left_runnable k.machine ≡ left → placed_all k.machine (thread_numbers k.machine) (moved_all k.machine k.direct left) ≡ put →
     settled_now k ≡ record (with_lists (λ lists. put) k) { direct = [] }
 lists_of k left put first last =
     ap (λ (ls : List (List ℕ)). record k { machine = record (k.machine) { lists = ls }; direct = [] })
@@ -85,7 +85,7 @@ one_moves k t fits right every one is =
 -- ---- one named thread
 
 -- another thread stands where it stood
-pub left_apart : (m : Machine Cursor) (t u : ℕ) (lists : List (List ℕ)) → u ≢ t → prio_of u (left_one m t lists) ≡ prio_of u lists
+left_apart : (m : Machine Cursor) (t u : ℕ) (lists : List (List ℕ)) → u ≢ t → prio_of u (left_one m t lists) ≡ prio_of u lists
 left_apart m t u lists other = by_case (can_run m t)
   where
     by_case : (b : Bool) → prio_of u (if b then lists else without t lists) ≡ prio_of u lists
@@ -101,24 +101,24 @@ from_apart : (o : Option ℕ) (t u p : ℕ) (lists : List (List ℕ)) → p - 1 
 from_apart None t u p lists small other = refl
 from_apart (Some before) t u p lists small other = shifted_apart (shift_between before p) t u p lists small other
 
-pub placed_apart : (m : Machine Cursor) (t u : ℕ) (lists : List (List ℕ)) → HavePriorities m → length lists ≡ 255 → u ≢ t → prio_of u (placed m t lists) ≡ prio_of u lists
+placed_apart : (m : Machine Cursor) (t u : ℕ) (lists : List (List ℕ)) → HavePriorities m → length lists ≡ 255 → u ≢ t → prio_of u (placed m t lists) ≡ prio_of u lists
 placed_apart m t u lists fits every other = by_case (can_run m t) refl
   where
     by_case : (b : Bool) → can_run m t ≡ b → prio_of u (if b then shifted_from (prio_of t lists) t (exec m t) lists else lists) ≡ prio_of u lists
     by_case false off = refl
     by_case true runs = from_apart (prio_of t lists) t u (exec m t) lists (within m t lists fits runs every) other
 
-pub left_length : (m : Machine Cursor) (t : ℕ) (lists : List (List ℕ)) → length (left_one m t lists) ≡ length lists
+left_length : (m : Machine Cursor) (t : ℕ) (lists : List (List ℕ)) → length (left_one m t lists) ≡ length lists
 left_length m t lists = by_case (can_run m t)
   where
     by_case : (b : Bool) → length (if b then lists else without t lists) ≡ length lists
     by_case true = refl
     by_case false = without_length t lists
 
-pub later_other : (t u : ℕ) → t + 1 ≤ u → u ≢ t
+later_other : (t u : ℕ) → t + 1 ≤ u → u ≢ t
 later_other t u low same = omega (arith, low, same)
 
-pub earlier_other : (t u : ℕ) → u < t → u ≢ t
+earlier_other : (t u : ℕ) → u < t → u ≢ t
 earlier_other t u small same = omega (arith, small, same)
 
 -- where it alone is named, no other leaves
@@ -129,7 +129,7 @@ one_leaves k t next right =
     let after : StandFrom x.machine (t + 1) = (λ u low. as_before m u lists left (left_apart m t u lists (later_other t u low)) (right u low)) in
     sym (ap (λ (z : Kernel). z.machine.lists) (left_in_the_end k x (t + 1) leaving after))
 
-pub risen_right : (m : Machine Cursor) (t u : ℕ) (lists : List (List ℕ)) → HavePriorities m → length lists ≡ 255 → can_run m t ≡ true → (u ≢ t → StandsRight (table_in m) lists u) →
+risen_right : (m : Machine Cursor) (t u : ℕ) (lists : List (List ℕ)) → HavePriorities m → length lists ≡ 255 → can_run m t ≡ true → (u ≢ t → StandsRight (table_in m) lists u) →
     StandsRight (table_in m) (to_tail t (exec m t) lists) u
 risen_right m t u lists fits every runs right =
     let small = within m t lists fits runs every in
