@@ -16,6 +16,7 @@ use parts_tracer::Tracer;
 use words_numbers::{ObjId, Res, Tick};
 
 /// The call is refused where calls on the queue do not block; and else the caller waits, unless its time has passed.
+#[inline(always)]
 pub(crate) fn block_unless_nonblock<K: Sink>(
     p: &mut Parts,
     by: &Caller<'_>,

@@ -17,6 +17,7 @@ use words_numbers::{Res, Tick};
 
 /// The caller waits for something that is no mutex, until that tick where there is one; where the tick is not in the future, its call
 /// returns at once.
+#[inline(always)]
 pub fn block_unless_late<K: Sink>(
     p: &mut Parts,
     by: &Caller<'_>,

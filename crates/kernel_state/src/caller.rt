@@ -43,7 +43,7 @@ impl Parts {
     }
 
     /// The caller blocks; its wait takes the next serial. A mutex that it waits for is owned, and to wait for it closes no cycle.
-    #[inline(never)]
+    #[inline(always)]
     #[tactic(auto, using(crate::proofs::Waits::awaits_none))]
     pub fn block(&mut self, by: &Caller<'_>, wait: Wait, due: Option<Tick>)
         requires can { CanBlock self.old by.now.thread }
