@@ -7,7 +7,7 @@ use Rattle.rules_machine.specs.Servers.{has_high}
 use Rattle.kernel_threads.specs.Unused.{IsUnused}
 use Rattle.kernel_state.specs.Kernel.{Kernel}
 use Rattle.kernel_state.specs.Pending.{PendingFits, SignalsFit}
-use Rattle.calls_sync.specs.Waits.{WaitsFit}
+use Rattle.kernel_wakes.specs.Waits.{WaitsFit}
 
 -- a timeout ends a wait; what wakes is activated, and so is what a refill gives its high priority back; a timer sends its signal
 pub record CanHandle (m : Machine Cursor) : Type 0 where

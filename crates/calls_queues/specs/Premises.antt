@@ -9,7 +9,7 @@ use Rattle.kernel_state.specs.Caught.{HasRoomToPend}
 use Rattle.kernel_state.specs.Kernel.{Kernel}
 use Rattle.kernel_state.specs.Messages.{waiting_message}
 use Rattle.kernel_state.specs.Pending.{PendingFits, SignalsFit}
-use Rattle.calls_sync.specs.Waits.{WaitsFit}
+use Rattle.kernel_wakes.specs.Waits.{WaitsFit}
 
 -- a thread that can run can send and receive: it can wait, others can wake, and a notification can be sent
 pub record CanPass (k : Kernel) (t : ℕ) : Type 0 where

@@ -8,9 +8,9 @@ ghost use Rattle.kernel_state.specs.Does.{Does};
 ghost use Rattle.kernel_state.specs.Caller.{caller};
 ghost use Rattle.kernel_state.specs.Callers.{CanBlock};
 
-use calls_sync::block_unless_late;
 use kernel_state::{Caller, Parts};
 use kernel_threads::Wait;
+use kernel_wakes::block_unless_late;
 use parts_io::Sink;
 use parts_tracer::Tracer;
 use words_numbers::{ObjId, Res, Tick};

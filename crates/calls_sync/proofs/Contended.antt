@@ -26,7 +26,7 @@ use Rattle.rules_moves.proofs.Calls.Answers.{waits_blocked}
 use Rattle.rules_moves.proofs.Calls.Commuting.{woken_runs}
 use Rattle.rules_moves.proofs.Waiters.OfThreads.{changed_is}
 use Rattle.kernel_threads.specs.Unused.{IsUnused}
-use Rattle.calls_sync.specs.Waits.{WaitKnowsMutex, OwnsNone, WaitsFit}
+use Rattle.kernel_wakes.specs.Waits.{WaitKnowsMutex, OwnsNone, WaitsFit}
 use Rattle.calls_sync.proofs.Kept.{kept_fits}
 use Rattle.calls_sync.proofs.Resting.{only_blocked}
 

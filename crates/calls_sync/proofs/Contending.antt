@@ -9,7 +9,7 @@ use Rattle.rules_machine.specs.Threads.{is_blocked, mutex_at, no_mutex, thread_a
 use Rattle.rules_machine.specs.Priorities.{mutex_awaited_by}
 use Rattle.rules_machine.specs.Mutexes.{leads_within, owner_of_awaited}
 use Rattle.kernel_state.specs.Waits.{CanWait}
-use Rattle.calls_sync.specs.Waits.{OwnsNone}
+use Rattle.kernel_wakes.specs.Waits.{OwnsNone}
 
 none_first : (t : ℕ) (k : Mutex) (ks : List Mutex) → filter (λ (j : Mutex). is j.owner t) (k ∷ ks) ≡ [] → is k.owner t ≡ false
 none_first t k ks e = by_case (is k.owner t) refl

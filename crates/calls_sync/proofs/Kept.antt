@@ -9,7 +9,7 @@ use Rattle.rules_machine.specs.Threads.{can_run, is_blocked, is_runnable, no_thr
 use Rattle.rules_machine.specs.Turns.{Turn, changes}
 use Rattle.rules_machine.proofs.Reading.{changed-keeps}
 use Rattle.kernel_threads.specs.Unused.{IsUnused}
-use Rattle.calls_sync.specs.Waits.{WaitKnowsMutex, BlockedRest, WaitsFit}
+use Rattle.kernel_wakes.specs.Waits.{WaitKnowsMutex, BlockedRest, WaitsFit}
 
 module _ (t : ℕ) (f : Thread Cursor → Thread Cursor) (s : Turn Cursor) (status : (th : Thread Cursor) → (f th).status ≡ th.status) where
   abbrev changed_thread : ℕ → Thread Cursor

@@ -12,7 +12,7 @@ use Rattle.rules_moves.proofs.Calls.Answers.{waits_blocked}
 use Rattle.rules_moves.proofs.Waiters.Best.{best_waits}
 use Rattle.rules_moves.proofs.Waiters.OfThreads.{changed_is}
 use Rattle.kernel_threads.specs.Unused.{IsUnused}
-use Rattle.calls_sync.specs.Waits.{WaitKnowsMutex, BlockedRest, KnowsMutex, MutexWaitersRest, WaitsKnowMutexes}
+use Rattle.kernel_wakes.specs.Waits.{WaitKnowsMutex, BlockedRest, KnowsMutex, MutexWaitersRest, WaitsKnowMutexes}
 
 pub blocked_waiters : (m : Machine Cursor) (k : ℕ) → BlockedRest m → MutexWaitersRest m k
 blocked_waiters m k rests u w waits passes = rests u (waits_blocked m u w waits)

@@ -10,7 +10,7 @@ use Rattle.rules_machine.specs.Turns.{Caller, Turn, answered, returns}
 use Rattle.rules_moves.proofs.Calls.Answers.{waits_blocked}
 use Rattle.rules_moves.proofs.Waiters.OfThreads.{changed_is}
 use Rattle.kernel_threads.specs.Unused.{IsUnused}
-use Rattle.calls_sync.specs.Waits.{WaitKnowsMutex, BlockedRest, MutexWaitersRest, WaitsFit}
+use Rattle.kernel_wakes.specs.Waits.{WaitKnowsMutex, BlockedRest, MutexWaitersRest, WaitsFit}
 
 module _ (by : Caller) (r : Res) (s : Turn Cursor) where
   abbrev answered_at : ℕ → Thread Cursor

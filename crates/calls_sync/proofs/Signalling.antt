@@ -7,7 +7,7 @@ use Rattle.rules_machine.specs.Conditions.{signals_best, signals_best_times}
 use Rattle.rules_machine.proofs.BehindCalls.{signals_best_behind}
 use Rattle.kernel_state.specs.Kernel.{Kernel, after, told, turn}
 use Rattle.kernel_state.proofs.Turns.{then_state, then_told}
-use Rattle.calls_sync.specs.Waits.{WaitsFit}
+use Rattle.kernel_wakes.specs.Waits.{WaitsFit}
 use Rattle.calls_sync.proofs.Contended.{signals_fit, signals_grow}
 
 -- so many have contended

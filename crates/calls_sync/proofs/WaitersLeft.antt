@@ -23,7 +23,7 @@ use Rattle.parts_waiters.specs.Ties.{is_object, object_of}
 use Rattle.parts_waiters.specs.declared.WaitObj.TheVariants.{Cond}
 use Rattle.kernel_state.specs.Kernel.{Kernel, after, told, turn}
 use Rattle.kernel_state.proofs.InConditions.{waiters_counted}
-use Rattle.calls_sync.specs.Waits.{WaitsFit}
+use Rattle.kernel_wakes.specs.Waits.{WaitsFit}
 use Rattle.calls_sync.proofs.Signalling.{Signalled, none_yet, one_more}
 
 -- ---- one thread of a list passes no more

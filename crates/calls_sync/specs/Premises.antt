@@ -2,7 +2,7 @@
 use Rattle.std.specs.Prelude.{◌≡◌, ◌≤◌, ◌<◌, ◌^◌, ℕ, Some, length}
 use Rattle.rules_machine.specs.Threads.{mutex_at}
 use Rattle.kernel_state.specs.Kernel.{Kernel}
-use Rattle.calls_sync.specs.Waits.{MutexWaitersRest, WaitsFit}
+use Rattle.kernel_wakes.specs.Waits.{MutexWaitersRest, WaitsFit}
 
 -- a thread can leave its condition, to own its mutex again or to wait for it
 pub record CanContend (k : Kernel) : Type 0 where

@@ -3,12 +3,12 @@ ghost use Rattle.std.specs.Prelude.{◌≡◌, ◌<◌, Some, length};
 ghost use Rattle.rules_machine.specs.Mutexes.{lock_answer, locked_again, trylock_answer};
 ghost use Rattle.rules_machine.specs.State.{Waiting};
 ghost use Rattle.rules_machine.specs.Threads.{waiting_of};
-ghost use Rattle.rules_machine.specs.Turns.{is_late};
 ghost use Rattle.kernel_threads.specs.Plain.{wait_of};
 ghost use Rattle.calls_sync.specs.Answers.{answer_of, is_cancelled_wait, owner_answer};
 
 use kernel_state::Parts;
 use kernel_threads::Wait;
+use kernel_wakes::is_late;
 use parts_owners::MutexState;
 use rules_machine::CondEnd;
 use words_numbers::{ObjId, Res, Tick, Tid};
@@ -78,16 +78,6 @@ pub(crate) fn trylock_answer(p: &Parts, t: Tid, k: ObjId) -> LockAnswer
         LockAnswer::Takes
     } else {
         LockAnswer::Refused(Res::Busy)
-    }
-}
-
-// Whether an absolute time is there, and is not in the future.
-pub(crate) fn is_late(p: &Parts, due: &Option<Tick>) -> bool
-    ensures { result ≡ is_late due.now p.now.machine }
-{
-    match due {
-        None => false,
-        Some(at) => *at <= p.instant(),
     }
 }
 

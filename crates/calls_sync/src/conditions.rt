@@ -13,7 +13,7 @@ ghost use Rattle.rules_machine.specs.Waking.{blocks};
 ghost use Rattle.kernel_state.specs.RealTimes.{MayWaitUntil};
 ghost use Rattle.kernel_state.specs.Does.{Does};
 ghost use Rattle.kernel_state.specs.Caller.{caller};
-ghost use Rattle.calls_sync.specs.Waits.{OwnsNone};
+ghost use Rattle.kernel_wakes.specs.Waits.{OwnsNone};
 ghost use Rattle.kernel_state.specs.Callers.{CanRise, IsRunning};
 ghost use Rattle.calls_sync.specs.Premises.{CanBroadcast, CanContend};
 

@@ -5,12 +5,10 @@
 #![tactic(auto)]
 
 mod answers;
-mod blocking;
 mod conditions;
 mod mutexes;
 mod semaphores;
 
-pub use blocking::block_unless_late;
 pub use conditions::{cond_broadcast, cond_signal, cond_wait, contend};
 pub use mutexes::{mutex_lock, mutex_trylock, mutex_unlock};
 pub use semaphores::{sem_getvalue, sem_post, sem_trywait, sem_wait};

@@ -10,10 +10,9 @@ ghost use Rattle.kernel_state.specs.Does.{Does};
 ghost use Rattle.kernel_state.specs.Caller.{caller};
 ghost use Rattle.kernel_state.specs.Callers.{CanBlock, CanWake};
 
-use crate::blocking::block_unless_late;
 use kernel_state::{Caller, Parts};
 use kernel_threads::Wait;
-use kernel_wakes::wake;
+use kernel_wakes::{block_unless_late, wake};
 use parts_io::Sink;
 use parts_tracer::Tracer;
 use parts_waiters::WaitObj;

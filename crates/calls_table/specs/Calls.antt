@@ -9,7 +9,7 @@ use Rattle.kernel_threads.specs.Handlers.{AreHandlers}
 use Rattle.rules_machine.specs.Threads.{can_run}
 use Rattle.kernel_state.specs.Kernel.{Kernel}
 use Rattle.kernel_state.specs.Pending.{PendingFits, SignalsFit}
-use Rattle.calls_sync.specs.Waits.{WaitsFit}
+use Rattle.kernel_wakes.specs.Waits.{WaitsFit}
 use Rattle.calls_threads.specs.Joins.{JoinsFit}
 
 -- how many objects of each kind a kernel has

@@ -7,7 +7,7 @@ use Rattle.rules_machine.specs.State.{Thread}
 use Rattle.rules_machine.specs.Threads.{is_blocked, no_thread, waiting_in}
 use Rattle.rules_machine.specs.Turns.{Caller, Turn, answered, changes, returns, ◌▷◌}
 use Rattle.rules_machine.proofs.Reading.{changed-keeps, changed-length}
-use Rattle.calls_sync.specs.Waits.{WaitsFit}
+use Rattle.kernel_wakes.specs.Waits.{WaitsFit}
 use Rattle.calls_sync.proofs.Kept.{kept_fits, kept_status}
 use Rattle.calls_sync.proofs.Returned.{returned_fits}
 use Rattle.calls_threads.specs.Joins.{JoinsFit}

@@ -10,7 +10,7 @@ use Rattle.rules_moves.proofs.Calls.Answers.{waits_blocked}
 use Rattle.kernel_threads.specs.Plain.{wait_of}
 use Rattle.kernel_threads.specs.declared.status.Wait as plain
 use Rattle.kernel_threads.specs.Unused.{IsUnused}
-use Rattle.calls_sync.specs.Waits.{BlockedRest}
+use Rattle.kernel_wakes.specs.Waits.{BlockedRest}
 use Rattle.calls_threads.specs.Joins.{EndIsKnown, JoinsFit}
 
 -- its wait as the code has it

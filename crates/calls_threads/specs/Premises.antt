@@ -1,7 +1,7 @@
 -- What cancellation and the ends of threads count on. This project's own.
 use Rattle.std.specs.Prelude.{◌≡◌, ◌≤◌, ◌<◌, ◌^◌, length}
 use Rattle.kernel_state.specs.Kernel.{Kernel}
-use Rattle.calls_sync.specs.Waits.{BlockedRest, WaitsFit}
+use Rattle.kernel_wakes.specs.Waits.{BlockedRest, WaitsFit}
 use Rattle.calls_threads.specs.Joins.{JoinsFit}
 
 -- a request can act in a thread, whatever that waits for

@@ -22,7 +22,7 @@ use Rattle.std.specs.Option.{option_map_or}
 use Rattle.rules_machine.specs.GoodState.{is_in_condition_wait}
 use Rattle.rules_machine.specs.Mutexes.{owned_by}
 use Rattle.rules_machine.specs.Waiters.{waits_so}
-use Rattle.calls_sync.specs.Waits.{WaitKnowsMutex}
+use Rattle.kernel_wakes.specs.Waits.{WaitKnowsMutex}
 use Rattle.kernel_state.specs.Kernel.{Kernel, after, turn}
 use Rattle.kernel_settling.specs.Stood.{StoodRight}
 use Rattle.calls_table.specs.Calls.{objects_in}

@@ -12,7 +12,7 @@ use Rattle.rules_flat_code.specs.KnownCalls.{Objects}
 use Rattle.kernel_threads.specs.Handlers.{CanEnd}
 use Rattle.kernel_state.specs.Kernel.{Kernel}
 use Rattle.kernel_state.specs.Pending.{PendingFits, SignalsFit}
-use Rattle.calls_sync.specs.Waits.{WaitsFit}
+use Rattle.kernel_wakes.specs.Waits.{WaitsFit}
 use Rattle.calls_threads.specs.Joins.{JoinsFit}
 use Rattle.rules_flat_code.specs.Runnable.{CallIsRunnable}
 use Rattle.calls_table.specs.Calls.{HasRoomFor}

@@ -29,7 +29,7 @@ use Rattle.laws_threads.proofs.FramesTaken.{run_holds}
 use Rattle.laws_threads.proofs.MadeCalls.{all_weaker}
 use Rattle.kernel_threads.specs.Unused.{IsUnused, IsUnusedAs}
 use Rattle.kernel_state.specs.Caught.{CatchesBy}
-use Rattle.calls_sync.specs.Waits.{WaitKnowsMutex}
+use Rattle.kernel_wakes.specs.Waits.{WaitKnowsMutex}
 use Rattle.laws_kernel.specs.Counts.{Counts, counts_in}
 use Rattle.laws_kernel.specs.FitsKernel.{FitsKernel}
 use Rattle.laws_kernel.proofs.HeldLaw.{Held, RoomsAreKnown, RoomIsKnown, held_after}

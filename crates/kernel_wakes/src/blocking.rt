@@ -2,18 +2,28 @@
 ghost use Rattle.std.specs.Prelude.{◌≡◌, None};
 ghost use Rattle.rules_machine.specs.Priorities.{mutex_waited};
 ghost use Rattle.rules_machine.specs.Semaphores.{blocks_unless_late};
+ghost use Rattle.rules_machine.specs.Turns.{is_late};
 ghost use Rattle.kernel_threads.specs.Plain.{wait_of};
 ghost use Rattle.kernel_state.specs.RealTimes.{MayWaitUntil};
 ghost use Rattle.kernel_state.specs.Does.{Does};
 ghost use Rattle.kernel_state.specs.Caller.{caller};
 ghost use Rattle.kernel_state.specs.Callers.{CanBlock};
 
-use crate::answers::is_late;
 use kernel_state::{Caller, Parts};
 use kernel_threads::Wait;
 use parts_io::Sink;
 use parts_tracer::Tracer;
 use words_numbers::{Res, Tick};
+
+/// Whether an absolute time is there, and is not in the future.
+pub fn is_late(p: &Parts, due: &Option<Tick>) -> bool
+    ensures { result ≡ is_late due.now p.now.machine }
+{
+    match due {
+        None => false,
+        Some(at) => *at <= p.instant(),
+    }
+}
 
 /// The caller waits for something that is no mutex, until that tick where there is one; where the tick is not in the future, its call
 /// returns at once.
