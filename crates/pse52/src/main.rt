@@ -16,9 +16,6 @@ use std::{env, io};
 use tool_answers::Status;
 use tool_commands::run_tool;
 
-// How many bytes of the script are asked for at a time.
-const READ_AHEAD: usize = 32_768;
-
 // How many bytes of the output are gathered before they are written.
 const HELD_BACK: usize = 65_536;
 
@@ -56,8 +53,7 @@ fn words(rt: &HostRuntime) -> io::Result<Vec<String>> {
 // Reads and writes through buffers. What a buffer held back and could not write is a fault of writing.
 fn run(rt: &HostRuntime) -> io::Result<Status> {
     let words = words(rt)?;
-    let input = BufReader::with_capacity(rt.alloc(), READ_AHEAD, rt.reader())?;
-    let mut source = StdSource::new(input);
+    let mut source = StdSource::new(BufReader::new(rt.alloc(), rt.reader())?);
     let mut sink = StdSink::open(rt.alloc(), HELD_BACK, io::writer(rt))?;
     let status = run_counted::<_, _, Brand>(
         rt.alloc(),
