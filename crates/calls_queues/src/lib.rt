@@ -9,8 +9,8 @@ mod blocking;
 mod entries;
 mod notification;
 mod receives;
+mod sending;
 mod sends;
+mod table;
 
-pub use notification::mq_notify;
-pub use receives::mq_receive;
-pub use sends::{Outgoing, mq_send};
+pub use table::do_queue_call;

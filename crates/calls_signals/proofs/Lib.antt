@@ -1,3 +1,4 @@
 pub mod Sent
 pub mod Awaited
 pub mod ClockSet
+pub mod Readings

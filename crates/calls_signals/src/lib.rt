@@ -8,10 +8,7 @@ mod clock;
 mod kills;
 mod masks;
 mod sigwait;
+mod table;
 mod timers;
 
-pub use clock::clock_settime;
-pub use kills::{kill, sigqueue, tkill};
-pub use masks::{sigmask_block, sigmask_set, sigmask_unblock};
-pub use sigwait::sigtimedwait;
-pub use timers::{expiry_after, expiry_at, timer_getoverrun, timer_gettime, timer_settime};
+pub use table::do_signal_call;

@@ -8,7 +8,7 @@ mod answers;
 mod conditions;
 mod mutexes;
 mod semaphores;
+mod table;
 
-pub use conditions::{cond_broadcast, cond_signal, cond_wait, contend};
-pub use mutexes::{mutex_lock, mutex_trylock, mutex_unlock};
-pub use semaphores::{sem_getvalue, sem_post, sem_trywait, sem_wait};
+pub use conditions::contend;
+pub use table::do_sync_call;

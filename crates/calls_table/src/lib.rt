@@ -3,10 +3,6 @@
 //! Proved: the row of each call is the machine's.
 #![tactic(auto)]
 
-mod lives;
-mod scheduling;
-mod sending;
 mod table;
-mod time;
 
 pub use table::make_call;

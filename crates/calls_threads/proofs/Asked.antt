@@ -10,7 +10,7 @@ use Rattle.rules_machine.proofs.Reading.{changed-keeps, changed-length}
 use Rattle.kernel_wakes.specs.Waits.{WaitsFit}
 use Rattle.calls_sync.proofs.Kept.{kept_fits, kept_status}
 use Rattle.calls_sync.proofs.Returned.{returned_fits}
-use Rattle.calls_threads.specs.Joins.{JoinsFit}
+use Rattle.kernel_wakes.specs.Joins.{JoinsFit}
 
 -- a thread changes in neither its status nor its joiner
 pub kept_joins : (t : ℕ) (f : Thread Cursor → Thread Cursor) (s : Turn Cursor) → ((th : Thread Cursor) → (f th).status ≡ th.status) → ((th : Thread Cursor) → (f th).joiner ≡ th.joiner) →

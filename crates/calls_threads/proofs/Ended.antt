@@ -10,7 +10,7 @@ use Rattle.rules_machine.proofs.Reading.{changed-length}
 use Rattle.rules_moves.proofs.Waiters.OfThreads.{changed_is}
 use Rattle.kernel_threads.specs.Unused.{IsUnused}
 use Rattle.kernel_wakes.specs.Waits.{BlockedRest}
-use Rattle.calls_threads.specs.Joins.{JoinerFits, JoinsFit}
+use Rattle.kernel_wakes.specs.Joins.{JoinerFits, JoinsFit}
 
 blocked_known : (threads : List (Thread Cursor)) (u : ℕ) → is_blocked (thread_in threads u).status ≡ true → u < length threads
 blocked_known [] u e = absurd cc

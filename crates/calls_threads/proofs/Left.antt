@@ -11,7 +11,7 @@ use Rattle.kernel_threads.specs.Plain.{wait_of}
 use Rattle.kernel_threads.specs.declared.status.Wait as plain
 use Rattle.kernel_threads.specs.Unused.{IsUnused}
 use Rattle.kernel_wakes.specs.Waits.{BlockedRest}
-use Rattle.calls_threads.specs.Joins.{EndIsKnown, JoinsFit}
+use Rattle.kernel_wakes.specs.Joins.{EndIsKnown, JoinsFit}
 
 -- its wait as the code has it
 abbrev pub WaitIs : Option plain.Wait → Option Waiting → Type 0

@@ -2,7 +2,7 @@
 use Rattle.std.specs.Prelude.{◌≡◌, ◌≤◌, ◌<◌, ◌^◌, length}
 use Rattle.kernel_state.specs.Kernel.{Kernel}
 use Rattle.kernel_wakes.specs.Waits.{BlockedRest, WaitsFit}
-use Rattle.calls_threads.specs.Joins.{JoinsFit}
+use Rattle.kernel_wakes.specs.Joins.{JoinsFit}
 
 -- a request can act in a thread, whatever that waits for
 pub record CanCancel (k : Kernel) : Type 0 where

@@ -11,7 +11,7 @@ ghost use Rattle.kernel_threads.specs.Plain.{wait_of};
 ghost use Rattle.kernel_threads.specs.Unused.{IsUnused};
 ghost use Rattle.kernel_state.specs.Does.{Does};
 ghost use Rattle.kernel_state.specs.Caller.{caller};
-ghost use Rattle.calls_threads.specs.Joins.{EndIsKnown};
+ghost use Rattle.kernel_wakes.specs.Joins.{EndIsKnown};
 ghost use Rattle.kernel_state.specs.Callers.{CanRise};
 ghost use Rattle.calls_sync.specs.Premises.{CanContend};
 ghost use Rattle.calls_threads.specs.Premises.{CanCancel};

@@ -11,7 +11,7 @@ ghost use Rattle.kernel_threads.specs.Plain.{joiner_of};
 ghost use Rattle.kernel_state.specs.Kernel.{after};
 ghost use Rattle.kernel_state.specs.Does.{Does};
 ghost use Rattle.kernel_state.specs.Caller.{caller};
-ghost use Rattle.calls_threads.specs.Joins.{JoinerFits};
+ghost use Rattle.kernel_wakes.specs.Joins.{JoinerFits};
 ghost use Rattle.kernel_state.specs.Callers.{CanRise};
 ghost use Rattle.calls_threads.specs.Premises.{CanFinish};
 

@@ -8,8 +8,8 @@ mod cancellation;
 mod cleanups;
 mod ends;
 mod joins;
+mod table;
 
-pub use cancellation::{acts_in_place, cancel, set_cancelability};
-pub use cleanups::{pop_cleanup, push_cleanup};
-pub use ends::{exit, finish};
-pub use joins::join;
+pub use cancellation::acts_in_place;
+pub use ends::finish;
+pub use table::do_thread_call;

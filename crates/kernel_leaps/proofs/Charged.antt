@@ -8,7 +8,7 @@ use Rattle.words_script.specs.declared.call.Call.TheVariants as call
 use Rattle.rules_machine.specs.State.{Frame, Thread}
 use Rattle.rules_flat_code.specs.KnownCalls.{Objects}
 use Rattle.rules_leaps.specs.Quiet.{after_ticks, frames_after}
-use Rattle.calls_table.specs.Calls.{HasRoomFor}
+use Rattle.kernel_wakes.specs.Calls.{HasRoomFor}
 use Rattle.kernel_leaps.specs.Completes.{CanComplete}
 
 as_many : (k : ℕ) (fs : List (Frame Cursor)) → length (frames_after k fs) ≡ length fs

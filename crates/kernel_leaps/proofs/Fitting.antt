@@ -25,7 +25,7 @@ use Rattle.rules_machine.specs.Waiters.{waits_so}
 use Rattle.kernel_wakes.specs.Waits.{WaitKnowsMutex}
 use Rattle.kernel_state.specs.Kernel.{Kernel, after, turn}
 use Rattle.kernel_settling.specs.Stood.{StoodRight}
-use Rattle.calls_table.specs.Calls.{objects_in}
+use Rattle.kernel_wakes.specs.Calls.{objects_in}
 use Rattle.kernel_leaps.specs.Completes.{CanAct}
 use Rattle.laws_kernel.specs.Counts.{Counts, counts_in, counts_of}
 use Rattle.kernel_leaps.specs.Fits.{Fits, FitsLeap, ItemsFit}

@@ -10,7 +10,7 @@ use Rattle.rules_machine.specs.DueItems.{instant, item_done, items_done, next_it
 use Rattle.rules_machine.proofs.BehindTicks.{item_done_behind}
 use Rattle.rules_flat_code.specs.FlatBodies.{flat_bodies}
 use Rattle.rules_flat_code.specs.KnownCalls.{Objects}
-use Rattle.calls_table.specs.Calls.{objects_in}
+use Rattle.kernel_wakes.specs.Calls.{objects_in}
 use Rattle.kernel_leaps.specs.Fits.{Fits, ItemsFit}
 use Rattle.kernel_leaps.proofs.Fitting.{objects_same}
 use Rattle.kernel_state.specs.Kernel.{Kernel, after, told, turn}

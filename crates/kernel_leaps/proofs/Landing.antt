@@ -26,7 +26,7 @@ use Rattle.laws_leaps.proofs.Quiet.Charges.{prepared_machine}
 use Rattle.kernel_state.specs.Kernel.{Kernel, after, turn}
 use Rattle.kernel_state.proofs.Turns.{then_state_in}
 use Rattle.kernel_state.specs.Caught.{CanSweep}
-use Rattle.calls_table.specs.Calls.{objects_in}
+use Rattle.kernel_wakes.specs.Calls.{objects_in}
 use Rattle.laws_kernel.specs.Visitable.{CanBeSwept}
 use Rattle.laws_kernel.proofs.Sweeping.{can_visit, swept_back}
 use Rattle.kernel_leaps.specs.Fits.{ItemsFit, StaysFit}

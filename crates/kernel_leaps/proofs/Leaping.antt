@@ -14,7 +14,7 @@ use Rattle.rules_machine.proofs.Joined.{ticks_add}
 use Rattle.rules_leaps.specs.Leap.{IsLeap, in_leaps, leap, leap_length}
 use Rattle.kernel_state.specs.Kernel.{Kernel, after, told}
 use Rattle.kernel_settling.specs.Stood.{StoodRight}
-use Rattle.calls_table.specs.Calls.{objects_in}
+use Rattle.kernel_wakes.specs.Calls.{objects_in}
 use Rattle.kernel_leaps.specs.Fits.{StaysFit}
 use Rattle.kernel_leaps.proofs.LeapCounts.{one_less}
 use Rattle.kernel_leaps.proofs.Running.{Running, few_leaps, is_leap_of, one_leap, run_on, still_fits}

@@ -8,7 +8,7 @@ use Rattle.rules_machine.specs.DueItems.{instant}
 use Rattle.rules_machine.specs.Ticks.{prepares}
 use Rattle.rules_flat_code.specs.FlatBodies.{flat_bodies}
 use Rattle.rules_leaps.specs.Leap.{ticks_to_next}
-use Rattle.calls_table.specs.Calls.{objects_in}
+use Rattle.kernel_wakes.specs.Calls.{objects_in}
 use Rattle.kernel_state.specs.Kernel.{Kernel, after, told}
 use Rattle.kernel_settling.specs.Stood.{StoodRight}
 use Rattle.kernel_leaps.specs.Fits.{StaysFit}

@@ -28,7 +28,7 @@ use Rattle.laws_leaps.proofs.Quiet.AnyMachine.{handled_of}
 use Rattle.laws_leaps.proofs.Quiet.Charges.{stays_so}
 use Rattle.laws_leaps.proofs.Quiet.Prepared.{Begun, prepares_nothing}
 use Rattle.laws_leaps.proofs.Quiet.Ticks.{idle_items}
-use Rattle.calls_table.specs.Calls.{objects_in}
+use Rattle.kernel_wakes.specs.Calls.{objects_in}
 use Rattle.kernel_state.specs.Kernel.{Kernel, after, told, turn}
 use Rattle.kernel_settling.specs.Stood.{StoodRight}
 use Rattle.kernel_state.proofs.Turns.{then_state_in, then_told_in}

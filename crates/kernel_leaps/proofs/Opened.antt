@@ -23,7 +23,7 @@ use Rattle.laws_leaps.proofs.Leaps.Scripts.{stays_ready}
 use Rattle.laws_threads.proofs.Frames.{all_placed}
 use Rattle.laws_threads.proofs.Within.{threads_are_within}
 use Rattle.kernel_state.specs.Kernel.{Kernel, opened}
-use Rattle.calls_table.specs.Calls.{objects_in}
+use Rattle.kernel_wakes.specs.Calls.{objects_in}
 use Rattle.laws_kernel.proofs.HeldLaw.{calls_known}
 use Rattle.laws_kernel.proofs.Kept.{as_many, placeable, stand_after, states_fit}
 use Rattle.laws_kernel.proofs.Ranges.{flat_bodies_fit}

@@ -5,7 +5,7 @@ use Rattle.rules_machine.specs.Threads.{thread_at}
 use Rattle.rules_machine.proofs.Reading.{thread-same}
 use Rattle.rules_moves.proofs.Waiters.Best.{running_within}
 use Rattle.rules_flat_code.specs.FlatBodies.{flat_bodies}
-use Rattle.calls_table.specs.Calls.{objects_in}
+use Rattle.kernel_wakes.specs.Calls.{objects_in}
 use Rattle.kernel_state.specs.Kernel.{Kernel, after}
 use Rattle.kernel_settling.specs.Stood.{StoodRight}
 use Rattle.kernel_leaps.specs.Fits.{FitsLeap, StaysFit}

@@ -33,7 +33,7 @@ use Rattle.laws_machine.proofs.Lists.Kept.{claim_at, claims_at, strict_high}
 use Rattle.laws_machine.proofs.Servers.OfThreads.{run_parts}
 use Rattle.kernel_threads.specs.Unused.{IsUnused, IsUnusedAs}
 use Rattle.laws_threads.specs.Within.{HighWithin}
-use Rattle.calls_table.specs.Calls.{HasRoomFor}
+use Rattle.kernel_wakes.specs.Calls.{HasRoomFor}
 use Rattle.kernel_state.specs.Kernel.{Kernel, after, turn}
 use Rattle.kernel_settling.specs.Stood.{StoodRight}
 use Rattle.kernel_leaps.specs.Completes.{CanComplete, CanTick}

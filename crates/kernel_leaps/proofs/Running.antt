@@ -13,7 +13,7 @@ use Rattle.rules_machine.specs.Runs.{Ran, ran, ticks}
 use Rattle.rules_machine.proofs.Joined.{ticks_add}
 use Rattle.rules_flat_code.specs.FlatBodies.{flat_bodies}
 use Rattle.rules_flat_code.specs.KnownCalls.{Objects}
-use Rattle.calls_table.specs.Calls.{objects_in}
+use Rattle.kernel_wakes.specs.Calls.{objects_in}
 use Rattle.rules_leaps.specs.Leap.{IsLeap, in_leaps, leap, leap_length}
 use Rattle.laws_leaps.proofs.Leaps.Counts.{StaysReady, are_leaps}
 use Rattle.laws_leaps.proofs.Leaps.Lengths.{is_leap}

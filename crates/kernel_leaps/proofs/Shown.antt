@@ -13,7 +13,7 @@ use Rattle.laws_facts.proofs.Shows.{flat_shows}
 use Rattle.kernel_texts.specs.Numbered.{AreNumbered}
 use Rattle.laws_kernel.specs.Counts.{Counts, counts_in, counts_of}
 use Rattle.kernel_state.specs.Kernel.{Kernel, after, opened}
-use Rattle.calls_table.specs.Calls.{objects_in}
+use Rattle.kernel_wakes.specs.Calls.{objects_in}
 use Rattle.kernel_leaps.specs.Ran.{ticked_by}
 use Rattle.kernel_leaps.specs.Shown.{HasFewObjects}
 use Rattle.kernel_leaps.proofs.Opened.{script_fits}

@@ -22,7 +22,7 @@ use Rattle.laws_flat_code.proofs.Agrees.{flat_busy}
 use Rattle.laws_leaps.proofs.Leaps.Lengths.{IsReady, is_leap}
 use Rattle.laws_leaps.proofs.Leaps.Scripts.{stays_ready}
 use Rattle.laws_kernel.proofs.Ranges.{flat_bodies_fit}
-use Rattle.calls_table.specs.Calls.{objects_in}
+use Rattle.kernel_wakes.specs.Calls.{objects_in}
 use Rattle.kernel_state.specs.Kernel.{opened}
 use Rattle.kernel_leaps.specs.Detail.{is_rest, leaps_left, steps_left}
 use Rattle.kernel_leaps.specs.declared.detail.Reached.{Reached}

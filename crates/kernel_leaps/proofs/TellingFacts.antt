@@ -35,7 +35,7 @@ use Rattle.kernel_texts.proofs.Whole.{ended_state}
 use Rattle.kernel_looks.proofs.Changing.{texts_are}
 use Rattle.laws_kernel.specs.Counts.{Counts}
 use Rattle.kernel_state.specs.Kernel.{opened}
-use Rattle.calls_table.specs.Calls.{objects_in}
+use Rattle.kernel_wakes.specs.Calls.{objects_in}
 use Rattle.kernel_leaps.specs.Detail.{AreBefore, AreReady, StayIfIdle}
 use Rattle.kernel_leaps.specs.Fits.{Fits}
 use Rattle.kernel_leaps.specs.declared.fact_texts.FactTexts.{FactTexts}

@@ -27,7 +27,7 @@ use Rattle.kernel_looks.specs.Desk.{HasDeskRooms, IsOpened, IsReady}
 use Rattle.kernel_looks.specs.declared.desk.Desk.{Desk}
 use Rattle.kernel_looks.proofs.FactsSeen.{memory_none}
 use Rattle.kernel_state.specs.Kernel.{Kernel, opened}
-use Rattle.calls_table.specs.Calls.{objects_in}
+use Rattle.kernel_wakes.specs.Calls.{objects_in}
 use Rattle.kernel_leaps.specs.Detail.{HaveRoomsFor}
 use Rattle.kernel_leaps.specs.Fits.{Fits}
 use Rattle.kernel_leaps.specs.Shown.{HasFewObjects}

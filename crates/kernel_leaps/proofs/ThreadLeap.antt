@@ -29,7 +29,7 @@ use Rattle.rules_leaps.specs.Leap.{leap_runs, unit_leapt}
 use Rattle.rules_leaps.specs.Quiet.{after_ticks}
 use Rattle.kernel_threads.specs.declared.ran.Ran.{Ran}
 use Rattle.kernel_threads.specs.Running.{all_of}
-use Rattle.calls_table.specs.Calls.{objects_in}
+use Rattle.kernel_wakes.specs.Calls.{objects_in}
 use Rattle.calls_items.proofs.Coming.Steps.{come_later}
 use Rattle.kernel_state.specs.Caught.{CanSweep}
 use Rattle.kernel_state.specs.Kernel.{Kernel, after, told, turn}

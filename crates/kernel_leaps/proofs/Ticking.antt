@@ -23,7 +23,7 @@ use Rattle.laws_threads.proofs.FramesTaken.{taken}
 use Rattle.laws_threads.proofs.MadeCalls.{UnitMakes}
 use Rattle.kernel_threads.specs.Handlers.{AreHandlers, CanEnd}
 use Rattle.rules_flat_code.specs.Runnable.{CallIsRunnable}
-use Rattle.calls_table.specs.Calls.{HasRoomFor}
+use Rattle.kernel_wakes.specs.Calls.{HasRoomFor}
 use Rattle.kernel_leaps.specs.Completes.{CanComplete, CanTick}
 use Rattle.laws_kernel.proofs.HeldLaw.{unit_makes}
 

@@ -13,9 +13,9 @@ use Rattle.kernel_threads.specs.Handlers.{CanEnd}
 use Rattle.kernel_state.specs.Kernel.{Kernel}
 use Rattle.kernel_state.specs.Pending.{PendingFits, SignalsFit}
 use Rattle.kernel_wakes.specs.Waits.{WaitsFit}
-use Rattle.calls_threads.specs.Joins.{JoinsFit}
+use Rattle.kernel_wakes.specs.Joins.{JoinsFit}
 use Rattle.rules_flat_code.specs.Runnable.{CallIsRunnable}
-use Rattle.calls_table.specs.Calls.{HasRoomFor}
+use Rattle.kernel_wakes.specs.Calls.{HasRoomFor}
 
 -- a call names what there is, and there is room for what it pushes or pops
 pub record CanMake (o : Objects) (th : Thread Cursor) (c : Call) : Type 0 where

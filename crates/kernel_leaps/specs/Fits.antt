@@ -19,7 +19,7 @@ use Rattle.laws_threads.specs.Within.{IsWithin}
 use Rattle.kernel_state.specs.Kernel.{Kernel, turn}
 use Rattle.kernel_state.specs.Pending.{PendingFits, SignalsFit}
 use Rattle.kernel_wakes.specs.Waits.{WaitsFit}
-use Rattle.calls_threads.specs.Joins.{JoinsFit}
+use Rattle.kernel_wakes.specs.Joins.{JoinsFit}
 use Rattle.calls_items.specs.Handled.{CanHandle}
 use Rattle.kernel_leaps.specs.Completes.{CanTick}
 use Rattle.laws_kernel.specs.Counts.{HasSerials, counts_in, counts_of}

@@ -15,7 +15,7 @@ use Rattle.rules_flat_code.specs.FlatBodies.{flat_bodies}
 use Rattle.rules_leaps.specs.Leap.{leap_runs}
 use Rattle.kernel_threads.specs.Lasting.{lasts_by}
 use Rattle.kernel_threads.specs.Running.{ArePassed, all_of, past}
-use Rattle.calls_table.specs.Calls.{objects_in}
+use Rattle.kernel_wakes.specs.Calls.{objects_in}
 use Rattle.kernel_state.specs.Kernel.{Kernel, after, told}
 use Rattle.kernel_settling.specs.Stood.{StoodRight}
 use Rattle.kernel_leaps.specs.Fits.{FitsLeap}

@@ -5,7 +5,7 @@ ghost use Rattle.words_script.specs.declared.call.Call.TheVariants as call;
 ghost use Rattle.rules_machine.specs.Calls.{makes_call};
 ghost use Rattle.rules_machine.specs.Threads.{thread_at};
 ghost use Rattle.rules_flat_code.specs.FlatBodies.{flat_bodies};
-ghost use Rattle.calls_table.specs.Calls.{CanCall, objects_in};
+ghost use Rattle.kernel_wakes.specs.Calls.{CanCall, objects_in};
 ghost use Rattle.kernel_leaps.specs.Completes.{CanMake};
 ghost use Rattle.kernel_state.specs.Kernel.{by};
 ghost use Rattle.kernel_state.specs.Does.{Does};

@@ -17,7 +17,7 @@ ghost use Rattle.rules_flat_code.specs.Runnable.{IsRunnable};
 ghost use Rattle.parts_tracer.specs.Printed.{Printed, outlet};
 ghost use Rattle.parts_tracer.specs.Tells.{Tells};
 ghost use Rattle.laws_detail.specs.Rests.{OnlyTakeTime};
-ghost use Rattle.calls_table.specs.Calls.{objects_in};
+ghost use Rattle.kernel_wakes.specs.Calls.{objects_in};
 ghost use Rattle.kernel_leaps.specs.Detail.{AreBefore, HasGoneOn, HaveRoomsFor, IsAfterQuietTick, Stops, Writes, steps_left, told_by};
 ghost use Rattle.kernel_leaps.specs.Fits.{ItemsFit, StaysFit};
 ghost use Rattle.kernel_leaps.specs.Passing.{IsQuietTick, MayLeapOn, PassesNoUnit, leap_of};

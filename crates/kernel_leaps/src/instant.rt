@@ -2,7 +2,7 @@
 ghost use Rattle.std.specs.Prelude.{◌≡◌, ◌≤◌, ◌^◌, []};
 ghost use Rattle.rules_machine.specs.DueItems.{instant};
 ghost use Rattle.rules_flat_code.specs.FlatBodies.{flat_bodies};
-ghost use Rattle.calls_table.specs.Calls.{objects_in};
+ghost use Rattle.kernel_wakes.specs.Calls.{objects_in};
 ghost use Rattle.kernel_leaps.specs.Fits.{ItemsFit};
 ghost use Rattle.kernel_state.specs.Does.{Does};
 ghost use Rattle.kernel_state.specs.Kernel.{after};

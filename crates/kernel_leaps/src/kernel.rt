@@ -16,7 +16,7 @@ ghost use Rattle.rules_machine.specs.WellFormed.{IsWellFormed};
 ghost use Rattle.rules_flat_code.specs.Runnable.{IsRunnable};
 ghost use Rattle.kernel_state.specs.Kernel.{opened, ran};
 ghost use Rattle.kernel_settling.specs.Stood.{StoodRight};
-ghost use Rattle.calls_table.specs.Calls.{objects_in};
+ghost use Rattle.kernel_wakes.specs.Calls.{objects_in};
 ghost use Rattle.kernel_leaps.specs.Fits.{StaysFit};
 ghost use Rattle.kernel_leaps.specs.Good.{IsGood};
 ghost use Rattle.kernel_leaps.specs.Ran.{ticked_by};

@@ -7,7 +7,7 @@ ghost use Rattle.rules_flat_code.specs.FlatBodies.{flat_bodies};
 ghost use Rattle.rules_leaps.specs.Leap.{in_leaps};
 ghost use Rattle.script_code.specs.Fetched.{unit_of};
 ghost use Rattle.laws_detail.specs.Rests.{OnlyTakeTime};
-ghost use Rattle.calls_table.specs.Calls.{objects_in};
+ghost use Rattle.kernel_wakes.specs.Calls.{objects_in};
 ghost use Rattle.kernel_threads.specs.Lasting.{used_up};
 ghost use Rattle.kernel_threads.specs.Running.{only_takes_time};
 ghost use Rattle.kernel_leaps.specs.Fits.{StaysFit};

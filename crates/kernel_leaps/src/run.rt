@@ -5,7 +5,7 @@ ghost use Rattle.rules_machine.specs.Eventful.{busy};
 ghost use Rattle.rules_machine.specs.Runs.{ticks};
 ghost use Rattle.rules_flat_code.specs.FlatBodies.{flat_bodies};
 ghost use Rattle.rules_leaps.specs.Leap.{in_leaps};
-ghost use Rattle.calls_table.specs.Calls.{objects_in};
+ghost use Rattle.kernel_wakes.specs.Calls.{objects_in};
 ghost use Rattle.kernel_leaps.specs.Fits.{StaysFit};
 ghost use Rattle.kernel_state.specs.Kernel.{Kernel};
 ghost use Rattle.kernel_settling.specs.Stood.{StoodRight};

@@ -11,7 +11,7 @@ ghost use Rattle.rules_flat_code.specs.Placed.{ArePlaced};
 ghost use Rattle.kernel_threads.specs.Handlers.{CanEnd};
 ghost use Rattle.kernel_threads.specs.Running.{HasRun};
 ghost use Rattle.laws_threads.specs.Within.{IsWithin};
-ghost use Rattle.calls_table.specs.Calls.{CanCall, objects_in};
+ghost use Rattle.kernel_wakes.specs.Calls.{CanCall, objects_in};
 ghost use Rattle.kernel_leaps.specs.Completes.{CanComplete};
 ghost use Rattle.kernel_state.specs.Kernel.{after, told};
 ghost use Rattle.kernel_state.specs.Does.{Does};

@@ -1,1 +1,3 @@
 pub mod Waits
+pub mod Joins
+pub mod Calls

@@ -43,7 +43,7 @@ use Rattle.laws_threads.proofs.Objects.{NotifiesKnown}
 use Rattle.laws_threads.proofs.Runs.{holds_throughout}
 use Rattle.kernel_state.specs.Caught.{CatchesBy}
 use Rattle.kernel_wakes.specs.Waits.{KnowsMutex, WaitKnowsMutex}
-use Rattle.calls_threads.specs.Joins.{EndIsKnown}
+use Rattle.kernel_wakes.specs.Joins.{EndIsKnown}
 use Rattle.laws_kernel.proofs.Members.{at_any, at_number, each_of}
 
 -- ---- what is known

@@ -12,7 +12,7 @@ use Rattle.laws_machine.proofs.Items.{throughout}
 use Rattle.laws_machine.proofs.Parts.Kept.{PartsRight, parts_tick}
 use Rattle.laws_machine.proofs.Parts.Opening.{opening_listed, opening_right}
 use Rattle.rules_flat_code.specs.KnownCalls.{Objects}
-use Rattle.calls_threads.specs.Joins.{EndIsKnown, JoinsFit}
+use Rattle.kernel_wakes.specs.Joins.{EndIsKnown, JoinsFit}
 use Rattle.laws_kernel.proofs.HeldLaw.{EndsAreKnown, Held}
 
 module _ (bodies : Bodies Cursor) (ranges : BodiesFit bodies) (script : Script) (fits : IsWellFormed script) where

@@ -10,7 +10,7 @@ use Rattle.rules_flat_code.specs.KnownCalls.{objects_of}
 use Rattle.kernel_threads.specs.Unused.{IsUnused}
 use Rattle.kernel_state.specs.Pending.{PendingFits, SignalsFit}
 use Rattle.kernel_wakes.specs.Waits.{WaitsFit}
-use Rattle.calls_threads.specs.Joins.{JoinsFit}
+use Rattle.kernel_wakes.specs.Joins.{JoinsFit}
 use Rattle.laws_kernel.specs.Counts.{HasSerials, counts_in, counts_of}
 use Rattle.laws_kernel.specs.Visitable.{CanBeSwept}
 

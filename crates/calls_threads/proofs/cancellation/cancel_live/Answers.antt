@@ -3,7 +3,7 @@ use Rattle.rules_machine.proofs.BehindCalls.{acts_if_blocked_behind}
 use Rattle.kernel_state.specs.Kernel.{Kernel, turn}
 use Rattle.kernel_state.specs.Caller.{caller}
 use Rattle.kernel_wakes.specs.Waits.{WaitsFit}
-use Rattle.calls_threads.specs.Joins.{JoinsFit}
+use Rattle.kernel_wakes.specs.Joins.{JoinsFit}
 use Rattle.calls_threads.proofs.Asked.{asked_fits, asked_joins}
 use Rattle.kernel_state.proofs.Does.{then_does}
 use Rattle.calls_threads.proofs.cancellation.cancel_live.Goals as goal

@@ -8,7 +8,7 @@ use Rattle.rules_machine.specs.Turns.{Turn, changes, changes_pending, tells, ◌
 use Rattle.rules_machine.proofs.BehindCalls.{wakes_joiner_behind}
 use Rattle.kernel_threads.specs.Plain.{joiner_of}
 use Rattle.kernel_state.specs.Kernel.{Kernel, turn}
-use Rattle.calls_threads.specs.Joins.{JoinerFits}
+use Rattle.kernel_wakes.specs.Joins.{JoinerFits}
 use Rattle.calls_threads.proofs.Ended.{joiner_fits}
 use Rattle.kernel_state.proofs.Does.{then_does}
 use Rattle.kernel_state.specs.Does.{Does}

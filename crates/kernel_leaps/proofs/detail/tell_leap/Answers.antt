@@ -13,7 +13,7 @@ use Rattle.script_printer.proofs.Puts.{put_nothing, put_same}
 use Rattle.kernel_texts.specs.Rooms.{HasObjectsOf}
 use Rattle.kernel_state.specs.Kernel.{Kernel, told}
 use Rattle.kernel_settling.specs.Stood.{StoodRight}
-use Rattle.calls_table.specs.Calls.{objects_in}
+use Rattle.kernel_wakes.specs.Calls.{objects_in}
 use Rattle.kernel_leaps.specs.Detail.{HasGoneOn, IsAfterQuietTick, Writes, is_rest, steps_left}
 use Rattle.kernel_leaps.specs.Fits.{StaysFit}
 use Rattle.kernel_leaps.specs.Passing.{IsQuietTick, PassesNoUnit, leap_of}

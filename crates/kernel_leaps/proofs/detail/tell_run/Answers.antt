@@ -1,5 +1,5 @@
 use Rattle.std.proofs.Common.{◌≡◌, ◌≤◌, ◌+◌, ◌∙◌, ℕ, ap, arith, false, subst, sym}
-use Rattle.calls_table.specs.Calls.{objects_in}
+use Rattle.kernel_wakes.specs.Calls.{objects_in}
 use Rattle.kernel_state.specs.Kernel.{Kernel, opened}
 use Rattle.kernel_leaps.specs.Detail.{Writes, steps_left, told_by}
 use Rattle.kernel_leaps.specs.Fits.{StaysFit}

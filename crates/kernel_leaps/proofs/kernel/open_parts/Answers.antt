@@ -3,7 +3,7 @@ use Rattle.kernel_state.specs.Kernel.{Kernel}
 use Rattle.kernel_settling.specs.Settled.{HavePriorities}
 use Rattle.kernel_settling.specs.Stood.{StoodRight}
 use Rattle.kernel_settling.proofs.StoodAtFirst.{stood_opening}
-use Rattle.calls_table.specs.Calls.{objects_in}
+use Rattle.kernel_wakes.specs.Calls.{objects_in}
 use Rattle.kernel_leaps.specs.Fits.{StaysFit}
 use Rattle.kernel_leaps.proofs.Opened.{script_fits}
 use Rattle.kernel_leaps.proofs.kernel.open_parts.Goals as goal

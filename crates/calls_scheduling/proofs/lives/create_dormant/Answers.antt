@@ -11,7 +11,7 @@ use Rattle.kernel_state.specs.Does.{Does}
 use Rattle.kernel_state.proofs.Does.{then_does}
 use Rattle.rules_bodies.specs.declared.op.Op.{Op}
 use Rattle.rules_bodies.specs.Flat as flat
-use Rattle.calls_table.proofs.lives.create_dormant.Goals as goal
+use Rattle.calls_scheduling.proofs.lives.create_dormant.Goals as goal
 
 pub returns : goal.returns
 returns g c =

@@ -12,7 +12,7 @@ use Rattle.kernel_state.specs.Kernel.{changes_policy, told, turn}
 use Rattle.kernel_state.specs.Caller.{caller}
 use Rattle.kernel_state.proofs.TickParts.{moves_if_events}
 use Rattle.kernel_state.proofs.Turns.{then_told}
-use Rattle.calls_table.proofs.scheduling.set_policy.Goals as goal
+use Rattle.calls_scheduling.proofs.scheduling.set_policy.Goals as goal
 
 pub returns : goal.returns
 returns g c = record {

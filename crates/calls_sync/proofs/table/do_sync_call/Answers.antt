@@ -5,7 +5,7 @@ use Rattle.rules_machine.specs.Conditions.{waits}
 use Rattle.rules_flat_code.specs.FlatBodies.{flat_bodies}
 use Rattle.kernel_state.specs.Caller.{caller}
 use Rattle.kernel_state.specs.Does.{Does}
-use Rattle.calls_table.proofs.table.do_call.Goals as goal
+use Rattle.calls_sync.proofs.table.do_sync_call.Goals as goal
 
 pub returns-in-Wait : goal.returns-in-Wait
 returns-in-Wait g c =
@@ -20,8 +20,3 @@ returns-in-Timedwait g c =
     let does = subst (λ (at : ℕ). Does g.K.Sink.text g.K.Sink.faults (waits_until at) p q.p c.args.out.now q.out) c.moment-in-Timedwait.ensures.value c.cond_wait-in-Timedwait.ensures in
     subst (λ (x : Call). Does g.K.Sink.text g.K.Sink.faults (call_effect (flat_bodies p.code) (caller c.args.by.now) x) p q.p c.args.out.now q.out) (sym c.in-Timedwait.is)
     (record { state = does.state; told = does.told })
-
-pub returns-in-Tkill : goal.returns-in-Tkill
-returns-in-Tkill g c =
-    let p = c.args.p.now in
-    subst (λ (x : Call). Does g.K.Sink.text g.K.Sink.faults (call_effect (flat_bodies p.code) (caller c.args.by.now) x) p c.tkill.new.p c.args.out.now c.tkill.new.out) (sym c.in-Tkill.is) c.tkill.ensures

@@ -8,7 +8,7 @@ ghost use Rattle.kernel_state.specs.RealTimes.{MayWaitUntil};
 ghost use Rattle.kernel_state.specs.Does.{Does};
 ghost use Rattle.kernel_state.specs.Caller.{caller};
 
-use calls_queues::{Outgoing, mq_send};
+use crate::sends::{Outgoing, mq_send};
 use kernel_state::{Caller, Parts};
 use parts_io::Sink;
 use parts_tracer::Tracer;

@@ -7,7 +7,7 @@ ghost use Rattle.rules_machine.specs.Lives.{creates, inherited_mask};
 ghost use Rattle.rules_flat_code.specs.FlatBodies.{flat_bodies};
 ghost use Rattle.kernel_state.specs.Does.{Does};
 ghost use Rattle.kernel_state.specs.Caller.{caller};
-ghost use Rattle.calls_table.specs.Calls.{CanStart};
+ghost use Rattle.kernel_wakes.specs.Calls.{CanStart};
 
 use kernel_state::{Caller, Parts};
 use kernel_wakes::start;

@@ -10,7 +10,7 @@ ghost use Rattle.kernel_threads.specs.Unused.{IsUnused};
 ghost use Rattle.kernel_state.specs.Kernel.{changes_policy};
 ghost use Rattle.kernel_state.specs.Does.{Does};
 ghost use Rattle.kernel_state.specs.Caller.{caller};
-ghost use Rattle.calls_table.specs.Calls.{CanStart};
+ghost use Rattle.kernel_wakes.specs.Calls.{CanStart};
 
 use kernel_state::{Caller, Parts};
 use kernel_wakes::activate;

@@ -10,7 +10,7 @@ use Rattle.rules_machine.specs.Threads.{can_run}
 use Rattle.kernel_state.specs.Kernel.{Kernel}
 use Rattle.kernel_state.specs.Pending.{PendingFits, SignalsFit}
 use Rattle.kernel_wakes.specs.Waits.{WaitsFit}
-use Rattle.calls_threads.specs.Joins.{JoinsFit}
+use Rattle.kernel_wakes.specs.Joins.{JoinsFit}
 
 -- how many objects of each kind a kernel has
 abbrev pub objects_in : Kernel → Objects
