@@ -1,6 +1,6 @@
 -- A settling of one thread: one direct move where nobody is named, or one named thread where nothing moves directly.
 use Rattle.std.proofs.Common.{◌≡◌, ◌≢◌, ◌<◌, ◌≤◌, ◌-◌, ◌+◌, ◌∙◌, inl, inr, ℕ, Bool, true, false, List, [], ◌∷◌, None, Option, Some, ap, arith, length, refl, sym}
-use Rattle.std.specs.Prelude.{if◌then◌else◌, slice_index}
+use Rattle.std.specs.Prelude.{filter, if◌then◌else◌, map, slice_index}
 use Rattle.std.proofs.lemmas.Bool.Decides.{eqb_tells, leb_tells}
 use Rattle.rules_bodies.specs.declared.cursor.Cursor.{Cursor}
 use Rattle.rules_lists.specs.Lists.{prio_of, to_tail, without}
@@ -14,7 +14,7 @@ use Rattle.kernel_settling.specs.Settled.{HavePriorities, left_one, moved, place
 use Rattle.kernel_state.specs.Standing.{IsNext, StandFrom, StandsRight, table_in}
 use Rattle.kernel_state.proofs.OnLists.{gone_apart, head_apart, tail_apart, tail_there}
 use Rattle.kernel_state.proofs.Waits.{runs_known}
-use Rattle.kernel_settling.proofs.SettlingSteps.{left_in_the_end, leaving_on, placed_in_the_end, placing_on}
+use Rattle.kernel_settling.proofs.SettlingSteps.{left_in_the_end, left_same, leaving_on, placed_in_the_end, placing_on}
 
 -- a thread that stands where it stood stands as right as before
 as_before : (m : Machine Cursor) (u : ℕ) (lists new : List (List ℕ)) → prio_of u new ≡ prio_of u lists → StandsRight (table_in m) lists u → StandsRight (table_in m) new u
@@ -183,3 +183,13 @@ one_settles k t fits next right every none =
 pub no_items : (xs : List ℕ) → length xs ≡ 0 → xs ≡ []
 no_items [] none = refl
 no_items (x ∷ xs) none = absurd (omega (arith, none))
+
+-- ---- one that leaves first
+
+-- a thread that is not runnable may leave before the others are settled
+pub still_settled : (k : Kernel) (t : ℕ) → can_run k.machine t ≡ false → settled_now (with_lists (without t) k) ≡ settled_now k
+still_settled k t off =
+    let m = k.machine in
+    let gone : left_one m t m.lists ≡ without t m.lists = ap (λ (b : Bool). if b then m.lists else without t m.lists) off in
+    let left : map (filter (can_run m)) (without t m.lists) ≡ left_runnable m = ap (λ (ls : List (List ℕ)). map (filter (can_run m)) ls) (sym gone) ∙ left_same m t m.lists in
+    ap (λ (ls : List (List ℕ)). record k { machine = record m { lists = placed_all m (thread_numbers m) (moved_all m k.direct ls) }; direct = [] }) left

@@ -1,6 +1,6 @@
 //! The moves of one effect or item. Only the named threads are looked at.
-ghost use Rattle.std.specs.Prelude.{◌≡◌, ◌<◌, ◌+◌, ◌∷◌, [], length, true};
-ghost use Rattle.rules_machine.specs.Threads.{thread_numbers};
+ghost use Rattle.std.specs.Prelude.{◌≡◌, ◌<◌, ◌+◌, ◌∷◌, [], IfSome, false, length, true};
+ghost use Rattle.rules_machine.specs.Threads.{can_run, thread_numbers};
 ghost use Rattle.rules_machine.specs.Settling.{left_runnable, moved_all};
 ghost use Rattle.kernel_state.specs.Kernel.{with_lists};
 ghost use Rattle.kernel_state.specs.Standing.{IsNext, StandFrom};
@@ -156,16 +156,79 @@ fn settle_named(p: &mut Parts, t: Tid)
     requires first { IsNext p.old.machine 0 t }
     ensures { p.new ≡ settled_now p.old }
 {
-    if !p.is_named_alone(t) {
-        settle_in_full(p);
-        return;
+    if p.is_named_alone(t) {
+        settle_alone(p, t);
+    } else {
+        settle_several(p, t);
     }
+}
+
+// The moves where `t` alone is named.
+#[inline(always)]
+fn settle_alone(p: &mut Parts, t: Tid)
+    requires fits { HavePriorities p.old.machine }
+    requires known { t < length p.old.names }
+    requires first { IsNext p.old.machine 0 t }
+    requires alone { StandFrom p.old.machine (t + 1) }
+    ensures { p.new ≡ settled_now p.old }
+{
     if p.direct_count() != 0 {
         settle_woken(p, t);
         return;
     }
     p.know_lists();
     settle_one(p, t);
+}
+
+// The moves where `t` is the first of several that are named. Mostly they are two, of which one leaves its list.
+#[inline(never)]
+#[tactic(auto, using(crate::proofs::OneSettles::still_settled))]
+fn settle_several(p: &mut Parts, t: Tid)
+    requires fits { HavePriorities p.old.machine }
+    requires known { t < length p.old.names }
+    ensures { p.new ≡ settled_now p.old }
+{
+    match first_to_leave(p, t) {
+        None => settle_in_full(p),
+        Some(u) => {
+            p.take_off(u);
+            settle_others(p);
+        }
+    }
+}
+
+// A thread that is not runnable: `t`, or the next that is named.
+#[inline(always)]
+fn first_to_leave(p: &Parts, t: Tid) -> Option<Tid>
+    requires { t < length p.now.names }
+    ensures known { IfSome result (λ u. u < length p.now.names) }
+    ensures leaves { IfSome result (λ u. can_run p.now.machine u ≡ false) }
+{
+    if !p.thread(t).is_runnable() {
+        return Some(t);
+    }
+    let Some(u) = p.next_named(t.get() + 1) else {
+        return None;
+    };
+    if p.thread(u).is_runnable() {
+        return None;
+    }
+    Some(u)
+}
+
+// The moves of those that are named yet. Mostly it is one.
+#[inline(always)]
+fn settle_others(p: &mut Parts)
+    requires { HavePriorities p.old.machine }
+    ensures { p.new ≡ settled_now p.old }
+{
+    if let Some(t) = p.next_named(0) {
+        if p.is_named_alone(t) {
+            settle_alone(p, t);
+            return;
+        }
+    }
+    settle_in_full(p);
 }
 
 // The moves where `t` alone is named, and some move directly. Mostly it is `t` alone, which can run again.

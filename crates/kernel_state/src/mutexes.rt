@@ -94,6 +94,7 @@ impl Parts {
     }
 
     /// The mutex goes from its owner to a thread that is runnable again.
+    #[inline(always)]
     pub fn hand_over(&mut self, k: ObjId, owner: Tid, t: Tid, res: Res, value: u64)
         requires known { t < length self.old.names }
         requires owner { IsOwner self.old.machine k owner }

@@ -19,4 +19,5 @@ pub mod RealItems
 pub mod Relinking
 pub mod TimerChanges
 pub mod Passes
+pub mod Passed
 pub mod WaitsElsewhere

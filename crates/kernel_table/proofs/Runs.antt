@@ -1,8 +1,8 @@
 -- Where a thread that can run, or waits for an instant, stands among the waiters and in the wheel.
-use Rattle.std.proofs.Common.{◌≡◌, ◌<◌, ◌+◌, ◌∙◌, ℕ, List, true, false, None, Option, Some, ap, is_some, length, refl}
+use Rattle.std.proofs.Common.{◌≡◌, ◌<◌, ◌+◌, ◌∙◌, ℕ, List, true, false, None, Option, Some, ap, is_some, length, refl, sym}
 use Rattle.rules_bodies.specs.declared.cursor.Cursor.{Cursor}
 use Rattle.rules_machine.specs.Conditions.{released_mutex}
-use Rattle.rules_machine.specs.Priorities.{claims, exec_in}
+use Rattle.rules_machine.specs.Priorities.{Claim, claims, exec_in, mutex_awaited_by}
 use Rattle.rules_machine.specs.State.{Status, Thread, Timer, Wait, Waiting, blocked, dormant, ended, for_condition, for_end, for_message, for_mutex, for_mutex_again, for_room, for_semaphore, for_signal, for_time, runnable}
 use Rattle.rules_machine.specs.declared.thread.CondEnd.{CondEnd}
 use Rattle.rules_machine.specs.Threads.{is_blocked, is_runnable, thread_in, waiting_in}
@@ -10,7 +10,8 @@ use Rattle.rules_machine.specs.Waking.{call_in, put_to_wait}
 use Rattle.parts_waiters.specs.declared.Place.{Place}
 use Rattle.parts_waiters.specs.Places.{place_in}
 use Rattle.parts_waiters.specs.Ties.{object_of, place_at, place_of}
-use Rattle.parts_owners.specs.Chains.{Links}
+use Rattle.parts_owners.specs.Chains.{Links, awaited_in}
+use Rattle.parts_owners.proofs.Machine.{awaited_is}
 use Rattle.parts_wheel.specs.Dues.{due_of}
 use Rattle.parts_bits.specs.Sets.{has}
 use Rattle.kernel_threads.specs.RealDues.{real_due_in}
@@ -118,6 +119,22 @@ blocked_unstarted th h = by_status th.status h
 pub blocked_started : (threads : List (Thread Cursor)) (timers : List Timer) (dues : List (Option ℕ)) (t : ℕ) → t < 256 → is_blocked (thread_in threads t).status ≡ true →
     AreArmed threads timers dues → due_of (256 + t) dues ≡ None
 blocked_started threads timers dues t small is armed = armed.starts t small ∙ blocked_unstarted (thread_in threads t) is
+
+-- ---- a thread that awaits a mutex
+
+awaiting_unstarted : (th : Thread Cursor) (k : ℕ) → mutex_awaited_by th ≡ Some k → start_of th ≡ None
+awaiting_unstarted th k h = by_status th.status h
+  where
+    by_status : (status : Status) → mutex_awaited_by (record th { status = status }) ≡ Some k → start_of (record th { status = status }) ≡ None
+    by_status (dormant at) e = absurd cc
+    by_status runnable e = refl
+    by_status (blocked w) e = refl
+    by_status ended e = refl
+
+pub awaiting_started : (threads : List (Thread Cursor)) (timers : List Timer) (dues : List (Option ℕ)) (chain : Links) (places : List (Option Place)) (t k : ℕ) → t < 256 →
+    awaited_in chain.claims t ≡ Some k → IsTied threads chain places → AreArmed threads timers dues → due_of (256 + t) dues ≡ None
+awaiting_started threads timers dues chain places t k small is tied armed =
+    armed.starts t small ∙ awaiting_unstarted (thread_in threads t) k (sym (awaited_is threads t) ∙ (ap (λ (cs : List Claim). awaited_in cs t) (sym tied.claims) ∙ is))
 
 abbrev pub again : ℕ → CondEnd → ℕ → Thread Cursor → Waiting
 again k how serial th = record { wait = for_mutex_again k how; serial = serial; due = None; call = call_in (waiting_in th.status) }

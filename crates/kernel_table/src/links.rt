@@ -68,6 +68,24 @@ pub(crate) fn stop_waiting(chain: &mut Chain, waits: &mut Waits, t: Tid) -> Opti
     leave_place(chain, waits, t)
 }
 
+/// The same of a thread that mostly awaits a mutex which is free.
+#[inline(always)]
+#[tactic(auto, using(crate::proofs::Places::left_placed, crate::proofs::Places::left_nowhere))]
+pub(crate) fn stop_awaiting(chain: &mut Chain, waits: &mut Waits, t: Tid) -> Option<Moved>
+    requires can { CanRelink chain.old waits.old t }
+    ensures links { Relinks (with_claim t (waiting_for None) chain.old) (left t waits.old) chain.old chain.new waits.new result }
+    ensures nowhere { place_in waits.new t ≡ None }
+{
+    if waits.place_of(t).is_none() {
+        return None;
+    }
+    if chain.awaits(t) {
+        return chain.stop_wait(waits, t);
+    }
+    waits.leave(t);
+    None
+}
+
 /// Costs nothing when it runs: a thread that stands nowhere waits for nothing in an order.
 #[inline(always)]
 #[tactic(auto, using(crate::proofs::Places::left_placed, crate::proofs::Places::left_nowhere))]
@@ -142,6 +160,7 @@ pub(crate) fn begin_waiting(
 }
 
 /// It awaits a mutex.
+#[inline(always)]
 pub(crate) fn await_mutex(
     chain: &mut Chain,
     waits: &mut Waits,
@@ -163,6 +182,7 @@ pub(crate) fn await_mutex(
 }
 
 // It stands among the waiters of an object that is no mutex, with the mutex that a condition's wait released, and no priority changes.
+#[inline(always)]
 fn stand_at(
     chain: &Chain,
     waits: &mut Waits,

@@ -12,11 +12,11 @@ ghost use Rattle.kernel_table.specs.Table as table;
 ghost use Rattle.kernel_table.specs.Table.{best_in, exec, with_mutex, with_thread};
 ghost use Rattle.kernel_table.specs.Movers.{KeepsExec, KeepsOthers, KeepsPriorities, MovesPriority, TellsMoved};
 
-use crate::links::stop_waiting;
+use crate::links::stop_awaiting;
 use crate::movers::thread_of;
 use crate::real_items::drop_wait;
 use crate::table::Table;
-use crate::times::time_wait;
+use crate::times::{end_sleep, time_wait};
 use parts_waiters::WaitObj;
 use words_numbers::{ObjId, Res, Tid};
 
@@ -97,7 +97,9 @@ impl Table {
     }
 
     /// The mutex goes from its owner to a thread that wakes. The answers are the one thread that stands among no waiters and whose execution
-    /// priority changed as the owner lost the mutex, and then as the other thread woke; beside that thread no other such one changed.
+    /// priority changed as the owner lost the mutex, and then as the other thread woke; beside that thread no other such one changed. Mostly
+    /// nobody's does.
+    #[inline(always)]
     #[tactic(auto, using(crate::proofs::Ties::placed))]
     pub fn hand_over(
         &mut self,
@@ -115,8 +117,37 @@ impl Table {
         ensures woken { TellsMoved (with_mutex k freed self.old) (with_thread t (woken res value) (with_mutex k freed self.old)) result.1 }
         ensures others { KeepsOthers t result.0 result.1 self.old self.new }
     {
+        if !self.chain.may_pass(k, owner, t) {
+            return self.hand_over_any(k, owner, t, res, value);
+        }
+        self.chain.pass(&mut self.waits, k, owner, t);
+        self.threads.get_mut(t).wake(res, value);
+        end_sleep(&mut self.wheel, t);
+        drop_wait(&mut self.real_waits, t);
+        (None, None)
+    }
+
+    // The same of any mutex, whoever is raised or lowered by it. It is inlined, since one that inherits goes over as often.
+    #[inline(always)]
+    #[tactic(auto, using(crate::proofs::Ties::placed))]
+    fn hand_over_any(
+        &mut self,
+        k: ObjId,
+        owner: Tid,
+        t: Tid,
+        res: Res,
+        value: u64,
+    ) -> (Option<Tid>, Option<Tid>)
+        requires known { t < length self.old.threads }
+        requires mutex { k < length self.old.mutexes }
+        requires owned { (mutex_in self.old.mutexes k).owner ≡ Some owner }
+        ensures table { self.new ≡ with_thread t (woken res value) (with_mutex k (taken_by t) self.old) }
+        ensures released { TellsMoved self.old (with_mutex k freed self.old) result.0 }
+        ensures woken { TellsMoved (with_mutex k freed self.old) (with_thread t (woken res value) (with_mutex k freed self.old)) result.1 }
+        ensures others { KeepsOthers t result.0 result.1 self.old self.new }
+    {
         let released = self.chain.release(&mut self.waits, k, owner);
-        let woken = stop_waiting(&mut self.chain, &mut self.waits, t);
+        let woken = stop_awaiting(&mut self.chain, &mut self.waits, t);
         self.chain.take(&mut self.waits, k, t);
         self.threads.get_mut(t).wake(res, value);
         time_wait(&mut self.wheel, t, None);

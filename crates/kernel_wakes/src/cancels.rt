@@ -29,6 +29,7 @@ pub fn wake_cancelled<K: Sink>(p: &mut Parts, t: Tid, out: &mut Tracer<'_, K>)
 }
 
 /// The mutex goes from its owner to a waiter whose condition wait was cancelled; the request acts.
+#[inline(never)]
 pub fn wake_cancelled_owner<K: Sink>(
     p: &mut Parts,
     k: ObjId,

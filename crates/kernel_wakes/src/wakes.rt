@@ -79,6 +79,7 @@ pub fn wake<K: Sink>(p: &mut Parts, t: Tid, res: Res, value: u64, out: &mut Trac
 }
 
 /// The mutex goes from its owner to a waiter, which wakes with that answer.
+#[inline(always)]
 pub fn wake_owner<K: Sink>(
     p: &mut Parts,
     k: ObjId,

@@ -66,6 +66,14 @@ module _ (s : Links) (exec : List ℕ) (k t : ℕ) (places : List (Option Place)
       let lent = lent_first exec s.claims places k k first placed.lengths (stands_cached s exec places settled placed) placed.waiters refl refl in
       subst (IsLent (prio_in exec) (length s.claims) g) (nobody_waits m.protocol first none lends) lent)
 
+  -- so the thread that takes it has what it had
+  pub gets_no_more : k < length s.mutexes → raises_nobody (mutex_in s.mutexes k).protocol (best_of (wait_obj.Mutex k) places) ≡ true →
+      prio_in exec t ≡ max (prio_in exec t) (through_in s.claims (prio_in exec) t k (mutex_in (with_mutex k (taken_by t) s).mutexes k))
+  gets_no_more lt none =
+      let y = taken_by t (mutex_in s.mutexes k) in
+      let here : mutex_in (set s.mutexes k y) k ≡ y = get_or-set_same s.mutexes k y no_mutex lt in
+      rw here (no_more (prio_in exec t) (through_in s.claims (prio_in exec) t k y) (gives_nothing none))
+
   -- ---- no priority changes
 
   module _ (new : Links) (b : Begins s new exec t places) (same : prio_in exec t ≡ asked_in new.claims new.mutexes (prio_in exec) t) (claims : new.claims ≡ s.claims) where
@@ -95,11 +103,7 @@ module _ (s : Links) (exec : List ℕ) (k t : ℕ) (places : List (Option Place)
       let m = mutex_in s.mutexes k in
       let two = both_are (is_none m.owner) (raises_nobody m.protocol (best_of (wait_obj.Mutex k) places)) (sym is) in
       let free = free_is m.owner two.0 in
-      let y = taken_by t m in
-      let here : mutex_in (set s.mutexes k y) k ≡ y = get_or-set_same s.mutexes k y no_mutex lt in
-      let through : prio_in exec t ≡ max (prio_in exec t) (through_in s.claims (prio_in exec) t k (mutex_in (with_mutex k (taken_by t) s).mutexes k)) =
-      rw here (no_more (prio_in exec t) (through_in s.claims (prio_in exec) t k y) (gives_nothing two.1)) in
-      let same = taken_same s exec k t known lt settled free through in
+      let same = taken_same s exec k t known lt settled free (gets_no_more lt two.1) in
       let b = begins_taken s exec k t places known lt settled placed free waits_not in
       (after (with_mutex k (taken_by t) s) b same refl, same_exec (with_mutex k (taken_by t) s) b same refl)
 

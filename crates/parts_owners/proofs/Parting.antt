@@ -14,7 +14,7 @@ module _ (s : Links) (exec : List ℕ) (t m : ℕ) (known : t < length s.claims)
   abbrev parted : Links
   parted = with_claim t (waiting_for None) s
 
-  none_now : awaited_in parted.claims t ≡ None
+  pub none_now : awaited_in parted.claims t ≡ None
   none_now = ap (λ (c : Claim). c.awaited) (get_or-set_same s.claims t (waiting_for None (get_or s.claims t no_claim)) no_claim known)
 
   as_before : (u : ℕ) → u ≢ t → awaited_in parted.claims u ≡ awaited_in s.claims u

@@ -1,12 +1,14 @@
 -- What a change of priorities does to the places of those that wait, and what is told of it.
 use Rattle.std.specs.Prelude.{IfSome, List, None, Option, Some, length, option_map, slice_set, ℕ, ◌≡◌, ◌≢◌, ◌<◌}
+use Rattle.words_script.specs.declared.policy.Protocol.TheVariants as protocol
+use Rattle.rules_machine.specs.Mutexes.{freed, taken_by}
 use Rattle.rules_machine.specs.Priorities.{Claim}
 use Rattle.parts_waiters.specs.declared.Place.{Place}
 use Rattle.parts_waiters.specs.declared.WaitObj.{WaitObj}
 use Rattle.parts_waiters.specs.declared.WaitObj.TheVariants.{Mutex}
 use Rattle.parts_waiters.specs.Places.{place_in}
 use Rattle.parts_owners.specs.declared.walk.Moved.{Moved}
-use Rattle.parts_owners.specs.Chains.{ArePriorities, ChainsEnd, Links, OwnersAreThreads, SolvesBut, awaited_in, exec_of, prio_in}
+use Rattle.parts_owners.specs.Chains.{ArePriorities, ChainsEnd, Links, OwnersAreThreads, SolvesBut, assigned_at, awaited_in, exec_of, mutex_at, prio_in, waiting_for, with_claim, with_mutex}
 
 -- each thread that waits stands there with its priority
 pub record StandsAt (e : ℕ → ℕ) (places : List (Option Place)) : Type 0 where
@@ -67,6 +69,26 @@ entered t k serial s places = slice_set places t (Some (record { object = Mutex 
 -- the places when a thread waits no more
 abbrev pub left : ℕ → List (Option Place) → List (Option Place)
 left t places = slice_set places t None
+
+-- a mutex that lends nothing and has no ceiling, whose owner has its assigned priority, and which the thread waits for
+pub record MayPass (s : Links) (k owner t : ℕ) : Type 0 where
+  pub low : exec_of s owner ≡ assigned_at s owner
+  pub plain : (mutex_at s k).protocol ≡ protocol.Plain
+  pub waits : awaited_in s.claims t ≡ Some k
+
+-- the links where nobody owns the mutex, and where the thread does not wait for it either
+abbrev pub freed_at : ℕ → Links → Links
+freed_at k s = with_mutex k freed s
+
+abbrev pub parted_at : ℕ → ℕ → Links → Links
+parted_at k t s = with_claim t (waiting_for None) (freed_at k s)
+
+-- a mutex goes from its owner to a thread that waited for it: it is free, the thread waits no more, and owns it; no priority changes
+pub record Passes (k t : ℕ) (old new : Links) (before after : List (Option Place)) : Type 0 where
+  pub chain : new ≡ with_mutex k (taken_by t) (parted_at k t old)
+  pub freed : Changes old (freed_at k old) before before None
+  pub parted : Changes (freed_at k old) (parted_at k t old) (left t before) after None
+  pub taken : Changes (parted_at k t old) new after after None
 
 -- the equations hold but maybe at one thread, and all else is in order
 pub record MayWalk (s : Links) (exec : List ℕ) (start : ℕ) (places : List (Option Place)) : Type 0 where

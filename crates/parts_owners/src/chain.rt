@@ -1,5 +1,5 @@
 //! Owners, mutex waits, and the execution priorities that follow from them.
-ghost use Rattle.std.specs.Prelude.{◌≡◌, ◌==◌, ◌<◌, ◌≤◌, IfOk, IfSome, IsSome, None, Some, false, is_some, length, ℕ};
+ghost use Rattle.std.specs.Prelude.{◌≡◌, ◌==◌, ◌<◌, ◌≤◌, IfOk, IfSome, IsSome, None, Some, false, is_some, length, true, ℕ};
 ghost use Rattle.std.specs.Prelude.{filter};
 ghost use Rattle.std.specs.List.{list_any};
 ghost use Rattle.rules_machine.specs.Lists.{is};
@@ -9,12 +9,12 @@ ghost use Rattle.parts_waiters.specs.declared.WaitObj.TheVariants as wait_obj;
 ghost use Rattle.parts_waiters.specs.Places.{best_of, place_in};
 ghost use Rattle.parts_owners.specs.Chains.{IsPriority, Links, OwnersAreThreads, SameExec, assigned_at, counted, assigned_to, awaited_in, closes_cycle_in, exec_of, freed_if, is_plainly_free, mutex_at, taken_if, waiting_for, with_claim, with_mutex};
 ghost use Rattle.parts_owners.specs.Fresh.{fresh};
-ghost use Rattle.parts_owners.specs.Moves.{Changes, IsPlaced, entered, left};
+ghost use Rattle.parts_owners.specs.Moves.{Changes, IsPlaced, MayPass, Passes, entered, left};
 
 use crate::boosts::{owned_count, owns_boosting};
 use crate::changes::{
-    begin_wait, change_base, end_wait, raise_base, recount, release, release_at_once, rises, take,
-    take_at_once,
+    begin_wait, change_base, end_wait, may_pass, pass, raise_base, recount, release,
+    release_at_once, rises, take, take_at_once,
 };
 use crate::claims::{
     MutexKind, MutexState, ThreadClaim, free_mutexes, fresh_claims, leads_to, lowest,
@@ -168,6 +168,7 @@ impl Chain {
     }
 
     /// The thread begins to wait for the mutex, at its execution priority.
+    #[inline(always)]
     pub fn wait_on(
         &mut self,
         w: &mut Waits,
@@ -197,6 +198,7 @@ impl Chain {
     }
 
     /// The thread waits for its mutex no more.
+    #[inline(always)]
     pub fn stop_wait(&mut self, w: &mut Waits, t: Tid) -> Option<Moved>
         requires known { t < length self.old.claims }
         requires placed { IsPlaced self.old w.old }
@@ -209,6 +211,7 @@ impl Chain {
     }
 
     /// The thread, which waits for no mutex, owns the mutex, which was free. No other priority changes than its own.
+    #[inline(always)]
     pub fn take(&mut self, w: &mut Waits, k: ObjId, t: Tid) -> Option<Moved>
         requires known { t < length self.old.claims }
         requires mutex { k < length self.old.mutexes }
@@ -236,6 +239,38 @@ impl Chain {
         take_at_once(&self.claims, &mut self.mutexes, &self.exec, w, k, t)
     }
 
+    /// Whether the mutex lends nothing and has no ceiling, its owner has its assigned priority, and the thread waits for it.
+    #[inline(always)]
+    pub fn may_pass(&self, k: ObjId, owner: Tid, t: Tid) -> bool
+        requires known { t < length self.now.claims }
+        requires mutex { k < length self.now.mutexes }
+        requires owned { (mutex_at self.now k).owner ≡ Some owner }
+        ensures { result ≡ true → MayPass self.now k owner t }
+    {
+        may_pass(&self.claims, &self.mutexes, &self.exec, k, owner, t)
+    }
+
+    /// The mutex goes from its owner to the thread, which waits for it. No priority changes.
+    #[inline(always)]
+    pub fn pass(&mut self, w: &mut Waits, k: ObjId, owner: Tid, t: Tid)
+        requires known { t < length self.old.claims }
+        requires mutex { k < length self.old.mutexes }
+        requires placed { IsPlaced self.old w.old }
+        requires owned { (mutex_at self.old k).owner ≡ Some owner }
+        requires may { MayPass self.old k owner t }
+        ensures { Passes k t self.old self.new w.old w.new }
+    {
+        pass(
+            &mut self.claims,
+            &mut self.mutexes,
+            &self.exec,
+            w,
+            k,
+            owner,
+            t,
+        );
+    }
+
     /// The mutex, which the thread owned, is free where the thread has its assigned priority. The answer is whether it has. No priority
     /// changes.
     #[inline(always)]
@@ -251,6 +286,7 @@ impl Chain {
     }
 
     /// The mutex, which the thread owned, is free.
+    #[inline(always)]
     pub fn release(&mut self, w: &mut Waits, k: ObjId, t: Tid) -> Option<Moved>
         requires mutex { k < length self.old.mutexes }
         requires placed { IsPlaced self.old w.old }

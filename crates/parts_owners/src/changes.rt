@@ -7,14 +7,15 @@ ghost use Rattle.rules_machine.specs.Threads.{mutex_in, no_mutex};
 ghost use Rattle.parts_waiters.specs.declared.WaitObj.TheVariants as wait_obj;
 ghost use Rattle.parts_waiters.specs.Places.{best_of, place_in};
 ghost use Rattle.parts_owners.specs.Chains.{SameExec, Settled, counted, awaited_in, closes_cycle_in, assigned_to, freed_if, is_plainly_free, links_of, no_claim, prio_in, taken_if, waiting_for};
-ghost use Rattle.parts_owners.specs.Moves.{Changes, IsPlaced, entered, left};
+ghost use Rattle.parts_owners.specs.Moves.{Changes, IsPlaced, MayPass, Passes, entered, left};
 
 use crate::claims::{
-    MutexState, ThreadClaim, assign, become_owner, next, set_count, set_free, set_wait,
+    MutexState, ThreadClaim, assign, become_owner, is_awaited, is_plain, next, set_count, set_free,
+    set_wait,
 };
 use crate::equations::{is_at_assigned, is_plainly_free, lends_less, lends_nothing};
 use crate::rise::rise;
-use crate::walk::{Moved, turn_alone, walk};
+use crate::walk::{Moved, turn_alone, walk, walk_apart};
 use parts_waiters::{Place, WaitObj, Waits};
 use words_numbers::{ObjId, Prio, Tid};
 
@@ -75,6 +76,7 @@ pub(crate) fn raise_base(
 }
 
 /// The thread begins to wait for the mutex, at its execution priority. No priority falls.
+#[inline(always)]
 pub(crate) fn begin_wait(
     claims: &mut [ThreadClaim],
     mutexes: &[MutexState],
@@ -108,6 +110,7 @@ pub(crate) fn begin_wait(
 }
 
 /// The thread waits for its mutex no more. Where nobody owns that, no priority changes.
+#[inline(always)]
 pub(crate) fn end_wait(
     claims: &mut [ThreadClaim],
     mutexes: &[MutexState],
@@ -128,12 +131,13 @@ pub(crate) fn end_wait(
     set_wait(claims, t, None);
     w.leave(t);
     match owner {
-        Some(owner) => walk(claims, mutexes, exec, w, owner),
+        Some(owner) => walk_apart(claims, mutexes, exec, w, owner),
         None => None,
     }
 }
 
 /// The thread, which waits for no mutex, owns the mutex, which was free. Mostly that raises nothing.
+#[inline(always)]
 pub(crate) fn take(
     claims: &[ThreadClaim],
     mutexes: &mut [MutexState],
@@ -157,7 +161,7 @@ pub(crate) fn take(
     if lends_nothing(claims, mutexes, exec, w, k, t) {
         return None;
     }
-    walk(claims, mutexes, exec, w, t)
+    walk_apart(claims, mutexes, exec, w, t)
 }
 
 /// The thread, which waits for no mutex, owns the mutex where it is plainly free. The answer is whether it is; no priority changes.
@@ -213,7 +217,57 @@ pub(crate) fn release_at_once(
     true
 }
 
+/// Whether a mutex lends nothing and has no ceiling, its owner has its assigned priority, and the thread waits for it.
+#[inline(always)]
+pub(crate) fn may_pass(
+    claims: &[ThreadClaim],
+    mutexes: &[MutexState],
+    exec: &[Prio],
+    k: ObjId,
+    owner: Tid,
+    t: Tid,
+) -> bool
+    requires known { t < length claims.now }
+    requires mutex { k < length mutexes.now }
+    requires settled { Settled (links_of claims.now mutexes.now) exec.now }
+    requires owned { (mutex_in mutexes.now k).owner ≡ Some owner }
+    ensures { result ≡ true → MayPass (links_of claims.now mutexes.now) k owner t }
+{
+    if !is_at_assigned(claims, exec, owner) {
+        return false;
+    }
+    is_plain(mutexes, k) && is_awaited(claims, k, t)
+}
+
+/// The mutex goes from its owner to the thread. No priority changes.
+#[inline(always)]
+pub(crate) fn pass(
+    claims: &mut [ThreadClaim],
+    mutexes: &mut [MutexState],
+    exec: &[Prio],
+    w: &mut Waits,
+    k: ObjId,
+    owner: Tid,
+    t: Tid,
+)
+    requires known { t < length claims.old }
+    requires mutex { k < length mutexes.old }
+    requires settled { Settled (links_of claims.old mutexes.old) exec.now }
+    requires placed { IsPlaced (links_of claims.old mutexes.old) w.old }
+    requires owned { (mutex_in mutexes.old k).owner ≡ Some owner }
+    requires may { MayPass (links_of claims.old mutexes.old) k owner t }
+    ensures settled { Settled (links_of claims.new mutexes.new) exec.now }
+    ensures passes { Passes k t (links_of claims.old mutexes.old) (links_of claims.new mutexes.new) w.old w.new }
+{
+    let _ = exec;
+    let _ = owner;
+    become_owner(mutexes, k, t);
+    set_wait(claims, t, None);
+    w.leave(t);
+}
+
 /// The mutex, which the thread owned, is free. A thread stays where it is at its assigned priority, and where the mutex lent it less.
+#[inline(always)]
 pub(crate) fn release(
     claims: &[ThreadClaim],
     mutexes: &mut [MutexState],
@@ -234,6 +288,27 @@ pub(crate) fn release(
         set_free(mutexes, k);
         return None;
     }
+    release_in_full(claims, mutexes, exec, w, k, t)
+}
+
+// The same of a thread that may have been lent something.
+#[inline(never)]
+fn release_in_full(
+    claims: &[ThreadClaim],
+    mutexes: &mut [MutexState],
+    exec: &mut [Prio],
+    w: &mut Waits,
+    k: ObjId,
+    t: Tid,
+) -> Option<Moved>
+    requires mutex { k < length mutexes.old }
+    requires settled { Settled (links_of claims.now mutexes.old) exec.old }
+    requires placed { IsPlaced (links_of claims.now mutexes.old) w.old }
+    requires owned { (mutex_in mutexes.old k).owner ≡ Some t }
+    ensures mutexes { mutexes.new ≡ changed_at no_mutex k freed mutexes.old }
+    ensures settled { Settled (links_of claims.now mutexes.new) exec.new }
+    ensures changes { Changes (links_of claims.now mutexes.old) (links_of claims.now mutexes.new) w.old w.new result }
+{
     if lends_less(claims, mutexes, exec, w, k, t) {
         set_free(mutexes, k);
         return None;

@@ -1,10 +1,11 @@
 //! What the execution priorities go by: the claims of threads and the owners of mutexes.
-ghost use Rattle.std.specs.Prelude.{IfOk, replicate, ◌≡◌, ◌<◌, length, map};
+ghost use Rattle.std.specs.Prelude.{IfOk, replicate, ◌≡◌, ◌<◌, length, map, true};
+ghost use Rattle.words_script.specs.declared.policy.Protocol.TheVariants as protocol;
 ghost use Rattle.rules_machine.specs.Lists.{changed_at, is};
 ghost use Rattle.rules_machine.specs.Mutexes.{freed, taken_by};
-ghost use Rattle.rules_machine.specs.Threads.{no_mutex};
+ghost use Rattle.rules_machine.specs.Threads.{mutex_in, no_mutex};
 ghost use Rattle.parts_owners.specs.Fresh.{free_mutex, fresh_claim};
-ghost use Rattle.parts_owners.specs.Chains.{OwnersAreThreads, counted, closes_cycle_in, assigned_to, no_claim, waiting_for, next_in};
+ghost use Rattle.parts_owners.specs.Chains.{OwnersAreThreads, counted, awaited_in, closes_cycle_in, assigned_to, no_claim, waiting_for, next_in};
 
 use parts_filled::filled;
 use std::alloc::{AllocError, Global};
@@ -176,6 +177,26 @@ pub(crate) fn set_free(mutexes: &mut [MutexState], k: ObjId)
     ensures { mutexes.new ≡ changed_at no_mutex k freed mutexes.old }
 {
     mutexes[k.get() as usize].set_free();
+}
+
+/// Whether the thread waits for the mutex.
+pub(crate) fn is_awaited(claims: &[ThreadClaim], k: ObjId, t: Tid) -> bool
+    requires { t < length claims.now }
+    ensures { result ≡ is (awaited_in claims.now t) k }
+{
+    claims[t.get() as usize].awaits(k.get() as usize)
+}
+
+/// Whether the mutex lends nothing and has no ceiling.
+pub(crate) fn is_plain(mutexes: &[MutexState], k: ObjId) -> bool
+    requires { k < length mutexes.now }
+    ensures { result ≡ true → (mutex_in mutexes.now k).protocol ≡ protocol.Plain }
+{
+    match mutexes[k.get() as usize].protocol() {
+        Protocol::Plain => true,
+        Protocol::Inherit => false,
+        Protocol::Protect(_) => false,
+    }
 }
 
 /// The owner of the mutex that the thread waits for.

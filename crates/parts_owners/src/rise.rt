@@ -39,8 +39,36 @@ fn next_owned(claims: &[ThreadClaim], mutexes: &[MutexState], t: Tid) -> Option<
 }
 
 /// Corrects the priorities from the owner of a mutex, where none falls: each owner is asked for what it has, or for what it gets
-/// through the one mutex.
+/// through the one mutex. Mostly the first gets no more.
+#[inline(always)]
 pub(crate) fn rise(
+    claims: &[ThreadClaim],
+    mutexes: &[MutexState],
+    exec: &mut [Prio],
+    w: &mut Waits,
+    k: ObjId,
+    start: Tid,
+) -> Option<Moved>
+    requires walks { MayWalk (links_of claims.now mutexes.now) exec.old start w.old }
+    requires mutex { k < length mutexes.now }
+    requires rises { RisesThrough claims.now mutexes.now (prio_in exec.old) k start }
+    ensures each { length exec.new ≡ length claims.now }
+    ensures right { Solves claims.now mutexes.now (prio_in exec.new) }
+    ensures fits { ArePriorities exec.new }
+    ensures same { SamePlaces w.old w.new }
+    ensures stand { StandsAt (prio_in exec.new) w.new }
+    ensures moved { TellsMoved (length claims.now) (prio_in exec.old) (prio_in exec.new) w.new result }
+{
+    let wanted = asked_through(claims, mutexes, exec, w, k, start);
+    if wanted == exec[start.get() as usize] {
+        return None;
+    }
+    rise_in_full(claims, mutexes, exec, w, k, start)
+}
+
+// The same, where the first may get more.
+#[inline(never)]
+fn rise_in_full(
     claims: &[ThreadClaim],
     mutexes: &[MutexState],
     exec: &mut [Prio],

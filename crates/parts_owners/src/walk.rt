@@ -107,6 +107,27 @@ pub(crate) fn walk(
     turn_alone(claims, mutexes, exec, w, start, wanted)
 }
 
+/// The same in a function of its own, where mostly no walk is needed.
+#[inline(never)]
+pub(crate) fn walk_apart(
+    claims: &[ThreadClaim],
+    mutexes: &[MutexState],
+    exec: &mut [Prio],
+    w: &mut Waits,
+    start: Tid,
+) -> Option<Moved>
+    requires { MayWalk (links_of claims.now mutexes.now) exec.old start w.old }
+    ensures each { length exec.new ≡ length claims.now }
+    ensures right { Solves claims.now mutexes.now (prio_in exec.new) }
+    ensures fits { ArePriorities exec.new }
+    ensures same { SamePlaces w.old w.new }
+    ensures stand { StandsAt (prio_in exec.new) w.new }
+    ensures moved { TellsMoved (length claims.now) (prio_in exec.old) (prio_in exec.new) w.new result }
+    ensures alone { next_in claims.now mutexes.now start ≡ None → IfSome result (λ m. m.thread ≡ start) }
+{
+    walk(claims, mutexes, exec, w, start)
+}
+
 // The whole walk, from the priority that the first thread is asked for.
 #[inline(never)]
 fn walk_on(

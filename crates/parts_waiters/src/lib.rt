@@ -116,6 +116,7 @@ impl Waits {
     }
 
     /// The thread begins to wait, at that place.
+    #[inline(always)]
     pub fn enter(&mut self, t: Tid, place: &Place)
         requires known { t < length self.old }
         requires nowhere { place_in self.old t ≡ None }
@@ -123,7 +124,7 @@ impl Waits {
     {
         let list = place.object.number();
         let waiter = Candidate::of(t.get() as u32, place);
-        let alike = self.alike && fits(&self.links, &self.places, list, place);
+        let differs = self.alike && !fits(&self.links, &self.places, list, place);
         stand(&mut self.links, &self.places, list, waiter);
         // field by field: a copy would read at once what was just written in pieces, and wait for these
         let Place {
@@ -138,7 +139,9 @@ impl Waits {
             released,
             serial,
         });
-        self.alike = alike;
+        if differs {
+            self.alike = false;
+        }
     }
 
     /// The thread waits no more.
@@ -151,6 +154,7 @@ impl Waits {
     }
 
     /// The priority at which the thread waits is another; it keeps its serial.
+    #[inline(never)]
     pub fn reprio(&mut self, t: Tid, p: Prio)
         requires { IsSome (place_in self.old t) }
         ensures { self.new ≡ repriced t p self.old }

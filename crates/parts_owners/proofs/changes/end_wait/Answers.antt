@@ -8,8 +8,8 @@ use Rattle.parts_owners.proofs.OneMutex.{nothing_changes, still_settled}
 use Rattle.parts_owners.proofs.Parting.{parted_same}
 use Rattle.parts_owners.proofs.changes.end_wait.Goals as goal
 
-pub walk-requires : goal.walk-requires
-walk-requires c =
+pub walk_apart-requires : goal.walk_apart-requires
+walk_apart-requires c =
     let old = links_of c.args.claims.now c.args.mutexes.now in
     let new = links_of c.set_wait.new.claims c.args.mutexes.now in
     let was = some_of c.requires.waits in
@@ -28,7 +28,7 @@ returns-in-Some c =
     ap (λ x. unwrap_or x c.args.t) c.in-Some.ensures in
     let b : Begins old new c.args.exec.now c.in-Some.owner (left c.args.t c.args.w.now) =
     rw c.set_wait.ensures (begins_left old _ c.args.t was.0 _ _ c.requires.known c.requires.settled c.requires.placed was.1 start) in
-    let e = c.walk.ensures in
+    let e = c.walk_apart.ensures in
     record {
       claims = c.set_wait.ensures;
       settled = settled_after old new _ _ _ _ b e.each e.right e.fits;

@@ -5,8 +5,8 @@ use Rattle.parts_owners.proofs.Done.{Begins, finished, may_walk, settled_after}
 use Rattle.parts_owners.proofs.OneMutex.{nothing_changes, still_settled, taken_same}
 use Rattle.parts_owners.proofs.changes.take.Goals as goal
 
-pub walk-requires : goal.walk-requires
-walk-requires c =
+pub walk_apart-requires : goal.walk_apart-requires
+walk_apart-requires c =
     let old = links_of c.args.claims.now c.args.mutexes.now in
     let new = links_of c.args.claims.now c.become_owner.new.mutexes in
     let b : Begins old new c.args.exec.now c.args.t c.args.w.now =
@@ -19,7 +19,7 @@ returns c =
     let new = links_of c.args.claims.now c.become_owner.new.mutexes in
     let b : Begins old new c.args.exec.now c.args.t c.args.w.now =
     rw c.become_owner.ensures (begins_taken old _ c.args.k _ _ c.requires.known c.requires.mutex c.requires.settled c.requires.placed c.requires.free c.requires.waits_not) in
-    let e = c.walk.ensures in
+    let e = c.walk_apart.ensures in
     record {
       mutexes = c.become_owner.ensures;
       settled = settled_after old new _ _ _ _ b e.each e.right e.fits;

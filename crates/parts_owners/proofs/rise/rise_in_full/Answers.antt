@@ -3,7 +3,7 @@ use Rattle.rules_machine.specs.Threads.{mutex_in}
 use Rattle.parts_owners.specs.Chains.{next_in, prio_in, through_in}
 use Rattle.parts_owners.proofs.Rising.{has_no_more, turned_rises}
 use Rattle.parts_owners.proofs.Turns.{Walking, ends_last, no_more, turns_on}
-use Rattle.parts_owners.proofs.rise.rise.Goals as goal
+use Rattle.parts_owners.proofs.rise.rise_in_full.Goals as goal
 
 pub returns-in_default-clause-right : goal.returns-in_default-clause-right
 returns-in_default-clause-right c =

@@ -2,7 +2,7 @@ use Rattle.std.proofs.Common.{length, ◌<◌}
 use Rattle.parts_owners.specs.Chains.{prio_in}
 use Rattle.parts_owners.specs.Rises.{RisesThrough}
 use Rattle.parts_owners.proofs.Turns.{Walking}
-use Rattle.parts_owners.proofs.rise.rise.Given as goal
+use Rattle.parts_owners.proofs.rise.rise_in_full.Given as goal
 
 abbrev pub invariant-loop : goal.invariant-loop
 invariant-loop l = record {
