@@ -13,6 +13,7 @@ use parts_io::Sink;
 use parts_tracer::Tracer;
 
 // Nobody accepts the signal: it is ignored, or it becomes pending. Nothing is told.
+#[inline(always)]
 #[tactic(auto, using(crate::proofs::Generated::as_ignored, crate::proofs::Generated::as_pending, crate::proofs::Generated::nothing_told))]
 fn generate_unaccepted(p: &mut Parts, r: &SignalRecord)
     requires signal { r.now.signal < 32 }
@@ -37,7 +38,11 @@ pub fn generate<K: Sink>(p: &mut Parts, r: &SignalRecord, out: &mut Tracer<'_, K
     ensures { Does K.text K.faults (generates r.now) p.old p.new out.old out.new }
 {
     match p.acceptor(r) {
-        Some(w) => accept(p, w, r, out),
+        // a copy of its own, so that the record is kept in no memory where nobody accepts it
+        Some(w) => {
+            let accepted = *r;
+            accept(p, w, &accepted, out);
+        }
         None => generate_unaccepted(p, r),
     }
 }

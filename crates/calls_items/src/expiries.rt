@@ -14,7 +14,8 @@ use parts_io::Sink;
 use parts_tracer::Tracer;
 use words_numbers::ObjId;
 
-// The signal of an expiry is generated.
+// The signal of an expiry is generated. It stands apart, so that the way past it is short.
+#[inline(never)]
 #[tactic(auto, using(crate::proofs::Expired::has_signal))]
 fn generate_expiry<K: Sink>(p: &mut Parts, k: ObjId, out: &mut Tracer<'_, K>)
     requires timer { k < length p.old.machine.timers }
@@ -27,6 +28,7 @@ fn generate_expiry<K: Sink>(p: &mut Parts, k: ObjId, out: &mut Tracer<'_, K>)
 }
 
 // Where a record of the timer is pending, that is one overrun more; else its signal is generated.
+#[inline(always)]
 #[tactic(auto, using(crate::proofs::Expired::as_overrun, crate::proofs::Expired::as_generated, crate::proofs::Expired::told_overrun, crate::proofs::Expired::told_generated, crate::proofs::Expired::has_room))]
 fn signal_expiry<K: Sink>(p: &mut Parts, k: ObjId, out: &mut Tracer<'_, K>)
     requires timer { k < length p.old.machine.timers }
@@ -42,6 +44,7 @@ fn signal_expiry<K: Sink>(p: &mut Parts, k: ObjId, out: &mut Tracer<'_, K>)
 
 /// A timer expires: its signal is generated, unless a record of the timer is pending still, which is one overrun more. Then it is due
 /// again after its interval, or disarmed where it has none.
+#[inline(never)]
 #[tactic(auto, using(crate::proofs::Expired::signalled_now, crate::proofs::Expired::signalled_many, crate::proofs::Expired::armed_after))]
 pub(crate) fn expire<K: Sink>(p: &mut Parts, k: ObjId, out: &mut Tracer<'_, K>)
     requires timer { k < length p.old.machine.timers }

@@ -41,6 +41,7 @@ fn tell_refill<K: Sink>(p: &mut Parts, t: Tid, r: &Refilled, runs: bool, out: &m
 }
 
 // The oldest pending replenishment of a server is carried out.
+#[inline(never)]
 fn refill<K: Sink>(p: &mut Parts, t: Tid, out: &mut Tracer<'_, K>)
     requires known { t < length p.old.names }
     requires rests { has_high (thread_at p.old.machine t).server ≡ false → IsUnused (thread_at p.old.machine t).server }
@@ -56,6 +57,7 @@ fn refill<K: Sink>(p: &mut Parts, t: Tid, out: &mut Tracer<'_, K>)
 }
 
 // A wait ends at its time: a sleep is over, and what was waited for is given up.
+#[inline(never)]
 fn time_out<K: Sink>(p: &mut Parts, t: Tid, out: &mut Tracer<'_, K>)
     requires known { t < length p.old.names }
     requires can { CanContend p.old }
@@ -76,6 +78,7 @@ fn time_out<K: Sink>(p: &mut Parts, t: Tid, out: &mut Tracer<'_, K>)
 }
 
 // A due item, before its moves.
+#[inline(never)]
 fn handle<K: Sink>(p: &mut Parts, i: Item, out: &mut Tracer<'_, K>)
     requires known { IsKnown (length p.old.names) (length p.old.machine.timers) i }
     requires can { CanHandleNext p.old }
@@ -90,6 +93,7 @@ fn handle<K: Sink>(p: &mut Parts, i: Item, out: &mut Tracer<'_, K>)
 }
 
 // A due item, with its moves.
+#[inline(always)]
 fn settle_item<K: Sink>(p: &mut Parts, i: Item, out: &mut Tracer<'_, K>)
     requires known { IsKnown (length p.old.names) (length p.old.machine.timers) i }
     requires can { CanHandleNext p.old }
@@ -102,6 +106,7 @@ fn settle_item<K: Sink>(p: &mut Parts, i: Item, out: &mut Tracer<'_, K>)
 }
 
 /// A due item, with its moves and the sweep.
+#[inline(always)]
 pub fn do_item<K: Sink>(p: &mut Parts, i: Item, out: &mut Tracer<'_, K>)
     requires known { IsKnown (length p.old.names) (length p.old.machine.timers) i }
     requires can { CanHandleNext p.old }

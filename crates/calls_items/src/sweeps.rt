@@ -61,9 +61,8 @@ fn sweep_in_full<K: Sink>(p: &mut Parts, out: &mut Tracer<'_, K>)
     settle(p);
 }
 
-// The sweep where something is pending. Mostly each thread blocks it, and then nothing changes. It stands apart, so that the test before
-// it is inlined.
-#[inline(never)]
+// The sweep where something is pending. Mostly each thread blocks it, and then nothing changes.
+#[inline(always)]
 fn sweep_pending<K: Sink>(p: &mut Parts, out: &mut Tracer<'_, K>)
     requires quiet { p.old.direct ≡ [] }
     requires stood { StoodRight p.old.machine }

@@ -96,6 +96,7 @@ impl Pending {
     }
 
     /// The record, of a signal from 0 to 31, becomes pending with this serial, which is above those of all that are.
+    #[inline(always)]
     pub fn add(&mut self, generated: SignalRecord, serial: u64)
         requires signal { generated.signal < 32 }
         requires room { length self.old < room }

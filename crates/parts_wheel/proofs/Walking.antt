@@ -1,15 +1,16 @@
 -- A walk along one list for the least due tick.
-use Rattle.std.proofs.Common.{◌≡◌, ◌≢◌, ◌⊎◌, inl, inr, ⊎_elim, ℕ, ◌^◌, ◌-◌, ◌<◌, ◌≤◌, min, true, false, Option, Some, None, is_some, List, [], ◌∷◌, if◌then◌else◌, slice_get, refl, sym, ap, subst, ◌∙◌, arith}
-use borrow.Author.Tests.{clash, eq-eqb}
+use Rattle.std.proofs.Common.{◌≡◌, ◌≢◌, ◌⊎◌, inl, inr, ⊎_elim, ℕ, ◌^◌, ◌-◌, ◌<◌, ◌≤◌, min, true, false, Option, Some, None, is_some, List, [], ◌∷◌, slice_get, refl, sym, ap, subst, ◌∙◌, arith}
+use borrow.Author.Tests.{clash}
 use Rattle.std.proofs.lemmas.Bool.Decides.{nat_tests}
 use Rattle.parts_links.specs.Links.{stands_in, follower, AreDistinct}
 use Rattle.parts_links.specs.Walks.{rest_of}
-use Rattle.parts_links.proofs.Walks.{rest_first, step}
+use Rattle.std.specs.List.{last_or}
+use Rattle.parts_links.proofs.Chains.{stands_first, stands_later}
+use Rattle.parts_links.proofs.Walks.{rest_first, step, apart_stands}
 use Rattle.parts_wheel.specs.Dues.{due_of}
 use Rattle.parts_wheel.specs.Slots.{IsSooner, IsLeastNode}
 use Rattle.parts_links.proofs.Chains.{equal}
 use Rattle.parts_wheel.proofs.Order.{lt_or}
-use Rattle.parts_wheel.proofs.Filing.{none_some}
 use Rattle.parts_wheel.proofs.Holding.{same_due}
 
 -- what the walk has passed is due at this tick or later, and then no other item than this one is
@@ -70,13 +71,15 @@ walk_on dues items at o next n e tick lone now sole distinct is stands follows d
           step_to;
     }
 
--- a head that nothing follows stands alone
-pub alone_in : (n : ℕ) (xs : List ℕ) → Some n ≡ slice_get xs 0 → follower n xs ≡ None → (i : ℕ) → stands_in i xs ≡ true → i ≡ n
-alone_in n [] head last i h = cc
-alone_in n (x ∷ []) head last i h = let same : n ≡ x = cc in grind (arith, nat_tests)
-alone_in n (x ∷ y ∷ xs) head last i h =
-    let same : n ≡ x = cc in
-    let next : follower n (x ∷ y ∷ xs) ≡ Some y = ap (λ b. if b then Some y else follower n (y ∷ xs)) (eq-eqb x n (sym same)) in absurd (none_some (sym last ∙ next))
+last_stands : (n x : ℕ) (xs : List ℕ) → last_or (Some x) xs ≡ Some n → stands_in n (x ∷ xs) ≡ true
+last_stands n x [] e = let same : x ≡ n = cc in subst (λ y. stands_in y (x ∷ []) ≡ true) same (stands_first x [])
+last_stands n x (y ∷ ys) e = stands_later n x (y ∷ ys) (last_stands n y ys e)
+
+-- a node that is the first of a list and its last stands alone
+pub alone_at_ends : (n : ℕ) (xs : List ℕ) → AreDistinct xs → slice_get xs 0 ≡ Some n → last_or None xs ≡ Some n → (i : ℕ) → stands_in i xs ≡ true → i ≡ n
+alone_at_ends n [] d head last i h = cc
+alone_at_ends n (x ∷ []) d head last i h = let same : n ≡ x = cc in grind (arith, nat_tests)
+alone_at_ends n (x ∷ y ∷ xs) d head last i h = let same : n ≡ x = cc in absurd (apart_stands x n (y ∷ xs) d.0 (last_stands n y xs last) same)
 
 pub not_some : (o : Option ℕ) → is_some o ≡ false → o ≡ None
 not_some None h = refl

@@ -1,5 +1,5 @@
 //! What is due first.
-ghost use Rattle.std.specs.Prelude.{◌≡◌, ◌≤◌, ◌<◌, ◌-◌, ◌*◌, ◌/◌, ◌^◌, ℕ, None, Some, length, slice_set};
+ghost use Rattle.std.specs.Prelude.{◌≡◌, ◌≤◌, ◌<◌, ◌-◌, ◌*◌, ◌/◌, ◌^◌, ℕ, None, Some, true, length, slice_set};
 ghost use Rattle.parts_wheel.specs.Dues.{due_of};
 ghost use Rattle.parts_wheel.specs.Slots.{Placed, IsLeastLater, IsLone, IsEarly, IsFront};
 
@@ -63,19 +63,39 @@ impl Front {
         }
     }
 
-    /// The same where what is due next, in the lowest level, is as it was.
+    /// Whether nothing is due before that tick, and it is what is due next after that of the slots.
+    #[inline(always)]
+    pub(crate) fn is_first(&self, tick: u64) -> bool
+        ensures { result ≡ true → (self.now.least ≡ tick) × (self.now.early ≡ tick) }
+    {
+        self.least == tick && self.early == tick
+    }
+
+    /// The same where none has passed.
+    #[inline(always)]
+    pub(crate) fn go_on(&mut self, slots: &Slots)
+        requires { IsEarly slots.now.dues self.old.early × (slots.now.base < self.old.early) }
+        ensures { IsFront slots.now self.new.least self.new.early self.new.lone }
+    {
+        match slots.next_near() {
+            Some(next) => {
+                self.least = next.tick;
+                self.early = next.tick;
+                self.lone = next.lone;
+            }
+            None => self.look_in_full(slots),
+        }
+    }
+
+    /// The same where none has passed, and what is due next, in the lowest level, is as it was.
     #[inline(always)]
     pub(crate) fn look_near(&mut self, slots: &Slots)
         requires least { IsLeastLater slots.now.base slots.now.dues self.old.least }
         requires near { self.old.least / 2048 ≡ slots.now.base / 2048 }
-        requires early { IsEarly slots.now.dues self.old.early }
+        requires early { IsEarly slots.now.dues self.old.early × (self.old.early ≡ self.old.least) }
         ensures { IsFront slots.now self.new.least self.new.early self.new.lone }
     {
-        self.lone = if self.early == self.least {
-            slots.lone_at(self.least)
-        } else {
-            NO_ITEM
-        };
+        self.lone = slots.lone_at(self.least);
     }
 
     // The same, whatever is due next.

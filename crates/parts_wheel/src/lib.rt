@@ -180,13 +180,11 @@ impl Wheel {
         ensures { self.new ≡ record self.old { dues = slice_set self.old.dues id.number (Some due) } }
     {
         let tick = before.get();
-        if tick == self.front.least && tick < due.get() && self.slots.is_near(tick) {
-            let left = self.slots.disarm_near(id.number, tick);
-            self.slots.arm_later(id.number, due);
-            if left {
+        if self.front.is_first(tick) && tick < due.get() && self.slots.is_near(tick) {
+            if self.slots.arm_near_anew(id.number, tick, due) {
                 self.front.look_near(&self.slots);
             } else {
-                self.front.look(&self.slots);
+                self.front.go_on(&self.slots);
             }
         } else {
             self.arm_anew_in_full(id, before, due);

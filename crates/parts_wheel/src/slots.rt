@@ -107,19 +107,6 @@ impl Slots {
         );
     }
 
-    /// The same, where the item falls due after the tick of the wheel.
-    #[inline(always)]
-    pub(crate) fn arm_later(&mut self, id: u32, due: Tick)
-        requires item { (id < length self.old.dues) × (due_of id self.old.dues ≡ None) }
-        requires later { self.old.base < due }
-        ensures armed { self.new ≡ record self.old { dues = slice_set self.old.dues id (Some due) } }
-        ensures least { (tick : ℕ) → tick ≤ due → IsLeastLater self.old.base self.old.dues tick → IsLeastLater self.new.base self.new.dues tick }
-    {
-        self.dues[id as usize] = Some(due);
-        let list = list_for(self.base, due.get());
-        put(&mut self.links, &mut self.occupied, list, id);
-    }
-
     /// The item, which is due then, is not armed afterwards.
     #[inline(always)]
     pub(crate) fn disarm(&mut self, id: u32, due: Tick)
@@ -146,6 +133,29 @@ impl Slots {
     {
         self.dues[id as usize] = None;
         take_from(&mut self.links, &mut self.occupied, (due % 2048) as u32, id)
+    }
+
+    /// An item that is due next, and stands in the lowest level, falls due later. The answer is whether another is due when it was.
+    #[inline(always)]
+    pub(crate) fn arm_near_anew(&mut self, id: u32, before: u64, due: Tick) -> bool
+        requires item { (id < length self.old.dues) × (due_of id self.old.dues ≡ Some before) }
+        requires next { IsLeastLater self.old.base self.old.dues before }
+        requires near { before / 2048 ≡ self.old.base / 2048 }
+        requires later { before < due }
+        ensures dues { self.new ≡ record self.old { dues = slice_set self.old.dues id (Some due) } }
+        ensures later { self.old.base < before }
+        ensures left { result ≡ true → IsLeastLater self.new.base self.new.dues before }
+    {
+        self.dues[id as usize] = Some(due);
+        let left = take_from(
+            &mut self.links,
+            &mut self.occupied,
+            (before % 2048) as u32,
+            id,
+        );
+        let list = list_for(self.base, due.get());
+        put(&mut self.links, &mut self.occupied, list, id);
+        left
     }
 
     /// The item, which is due next, is not armed afterwards, and the wheel goes on to its tick.

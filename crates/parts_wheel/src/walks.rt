@@ -1,5 +1,5 @@
 //! Walks along the lists of a wheel.
-ghost use Rattle.std.specs.Prelude.{◌≡◌, ◌<◌, ℕ, true, length, IfSome};
+ghost use Rattle.std.specs.Prelude.{◌≡◌, ◌<◌, ℕ, true, length, Some, IfSome};
 ghost use Rattle.parts_links.specs.Links.{list_at, stands_in, stands_at};
 ghost use Rattle.parts_wheel.specs.Slots.{IsEarly, IsLeastOf, IsLoneOf, IsSooner, IsOnly, IsLeastNode};
 ghost use Rattle.parts_wheel.specs.Moves.{IsDue};
@@ -68,10 +68,18 @@ pub(crate) fn only_in(links: &Links, list: u32) -> u32
     ensures { IsOnly (list_at links.now.lists list) result }
 {
     links.stand_once();
-    match links.front(list) {
-        Some(node) if links.next(node).is_none() => node,
-        _ => NO_ITEM,
-    }
+    only(links.front(list), links.back(list))
+}
+
+// The number of the first node of a list, where it is that of the last too, or no node's. No branch hangs on which it is, as lists of
+// one node and longer ones come in turn.
+#[inline(always)]
+fn only(first: Option<u32>, last: Option<u32>) -> u32
+    ensures { result < 1024 → (first ≡ Some result) × (last ≡ Some result) }
+{
+    let first = first.unwrap_or(NO_ITEM);
+    let last = last.unwrap_or(NO_ITEM);
+    if first == last { first } else { NO_ITEM }
 }
 
 /// How many nodes behind the first `least_of_few` looks at.

@@ -1,12 +1,12 @@
-use Rattle.std.proofs.Common.{not, sym, ap, ◌∙◌}
+use Rattle.std.proofs.Common.{sym, ◌∙◌}
 use Rattle.parts_links.specs.Links.{list_at}
-use Rattle.parts_links.proofs.Walks.{head_stands, follows_in}
-use Rattle.parts_wheel.proofs.Walking.{alone_in, not_some}
+use Rattle.parts_links.proofs.Walks.{head_stands}
+use Rattle.parts_wheel.proofs.Walking.{alone_at_ends}
 use Rattle.parts_wheel.proofs.walks.only_in.Goals as goal
 
-pub returns-in-Some : goal.returns-in-Some
-returns-in-Some c small =
-    let l = c.args.links.now in let k = c.args.list in let xs = list_at l.lists k in let n = c.in-Some.node in
-    let stands = head_stands n xs (sym c.in-Some.ensures.head) in
-    let follows = c.next.ensures.follower ∙ follows_in l c.stand_once.ensures n k c.requires.list stands in
-    let last = not_some c.next.result (c.is_none.ensures ∙ ap not c.if-is_none.true) in (stands, alone_in n xs c.in-Some.ensures.head (sym follows ∙ last))
+pub returns : goal.returns
+returns c small =
+    let l = c.args.links.now in let k = c.args.list in let xs = list_at l.lists k in let n = c.only.result in
+    let ends = c.only.ensures small in
+    let head = sym c.front.ensures.head ∙ ends.0 in
+    (head_stands n xs head, alone_at_ends n xs (c.stand_once.ensures.distinct k c.requires.list) head (sym c.back.ensures.tail ∙ ends.1))
