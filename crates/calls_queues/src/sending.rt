@@ -15,8 +15,8 @@ use parts_tracer::Tracer;
 use words_numbers::{ObjId, Tick};
 use words_script::Operand;
 
-/// `mq_send`, and with a time `mq_timedsend`. It stands apart, so that no other call needs room for a message.
-#[inline(never)]
+/// `mq_send`, and with a time `mq_timedsend`.
+#[inline(always)]
 pub(crate) fn send<K: Sink>(
     p: &mut Parts,
     by: &Caller<'_>,

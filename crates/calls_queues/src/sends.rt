@@ -40,6 +40,7 @@ impl Outgoing {
 }
 
 // The call returns, and the receiver that is served first wakes with the message.
+#[inline(always)]
 fn hand_to_receiver<K: Sink>(
     p: &mut Parts,
     by: &Caller<'_>,
@@ -53,7 +54,7 @@ fn hand_to_receiver<K: Sink>(
     requires can { CanWake p.old }
     ensures { Does K.text K.faults (λ s. s ▷ returns (caller by.now) res.Zero 0 ▷ wakes receiver res.Zero value) p.old p.new out.old out.new }
 {
-    p.returns(by, Res::Zero, 0, out);
+    p.returns_by::<K, 3>(by, Res::Zero, 0, out);
     wake(p, receiver, Res::Zero, value, out);
 }
 
@@ -82,6 +83,7 @@ fn send_to_queue<K: Sink>(
 }
 
 /// `mq_send`, and with a time `mq_timedsend`. The priority of the message is 0 to 31.
+#[inline(always)]
 pub fn mq_send<K: Sink>(
     p: &mut Parts,
     by: &Caller<'_>,

@@ -15,10 +15,11 @@ use kernel_state::Parts;
 use parts_io::Sink;
 use parts_tracer::Tracer;
 use script_code::{CallPlace, ShortCall};
-use words_numbers::{ObjId, Tid};
-use words_script::Call;
+use words_numbers::{ObjId, Prio, SigSet, Tid};
+use words_script::{Call, Operand};
 
-/// The call that stands at a place. Where it stands in the table of its body it is copied once, as it is.
+/// The call that stands at a place. Where it stands in the table of its body, one of those that are made most often there has a function of
+/// its own, and is not copied; any other is copied once, as it is.
 #[inline(never)]
 pub(crate) fn make_any<K: Sink>(p: &mut Parts, t: Tid, place: CallPlace, out: &mut Tracer<'_, K>)
     requires caller { CanCall p.old t }
@@ -28,8 +29,23 @@ pub(crate) fn make_any<K: Sink>(p: &mut Parts, t: Tid, place: CallPlace, out: &m
     let Some(kept) = p.call_in_table(&place) else {
         return make_any_in_full(p, t, place, out);
     };
-    let call = *kept;
-    make_call(p, t, &call, out);
+    match *kept {
+        Call::Create(u) => make_create(p, t, u, out),
+        Call::Join(u) => make_join(p, t, u, out),
+        Call::Cancel(u) => make_cancel(p, t, u, out),
+        Call::Setprio(u, prio) => make_setprio(p, t, u, prio, out),
+        Call::Kill(signal) => make_kill(p, t, signal, out),
+        Call::SemWait(k) => make_sem_wait(p, t, k, out),
+        Call::Wait(c, k) => make_wait(p, t, c, k, out),
+        Call::Signal(c) => make_signal(p, t, c, out),
+        Call::Sigwaitinfo(set) => make_sigwaitinfo(p, t, set, out),
+        Call::MqSend(q, len, prio, v) => make_send(p, t, q, len, prio, v, out),
+        Call::MqReceive(q) => make_receive(p, t, q, out),
+        _ => {
+            let call = *kept;
+            make_kept(p, t, &call, out)
+        }
+    }
 }
 
 // The same, wherever it is kept.
@@ -40,7 +56,17 @@ fn make_any_in_full<K: Sink>(p: &mut Parts, t: Tid, place: CallPlace, out: &mut 
     ensures { Does K.text K.faults (makes_call (flat_bodies p.old.code) (by t (call_of p.old.code place))) p.old p.new out.old out.new }
 {
     let call = p.call(&place);
-    make_call(p, t, &call, out);
+    make_kept(p, t, &call, out);
+}
+
+// A call that was copied.
+#[inline(never)]
+fn make_kept<K: Sink>(p: &mut Parts, t: Tid, call: &Call, out: &mut Tracer<'_, K>)
+    requires caller { CanCall p.old t }
+    requires can { CanMake (objects_in p.old) (thread_at p.old.machine t) call.now }
+    ensures { Does K.text K.faults (makes_call (flat_bodies p.old.code) (by t call.now)) p.old p.new out.old out.new }
+{
+    make_call(p, t, call, out);
 }
 
 /// A short call. For `WAY` see `leap_thread`.
@@ -82,4 +108,122 @@ fn make_sleep<K: Sink>(p: &mut Parts, t: Tid, n: u64, out: &mut Tracer<'_, K>)
     ensures { Does K.text K.faults (makes_call (flat_bodies p.old.code) (by t (call.Nanosleep n))) p.old p.new out.old out.new }
 {
     make_call(p, t, &Call::Nanosleep(n), out);
+}
+
+// `pthread_create`.
+#[inline(never)]
+fn make_create<K: Sink>(p: &mut Parts, t: Tid, u: Tid, out: &mut Tracer<'_, K>)
+    requires caller { CanCall p.old t }
+    requires can { CanMake (objects_in p.old) (thread_at p.old.machine t) (call.Create u) }
+    ensures { Does K.text K.faults (makes_call (flat_bodies p.old.code) (by t (call.Create u))) p.old p.new out.old out.new }
+{
+    make_call(p, t, &Call::Create(u), out);
+}
+
+// `pthread_join`.
+#[inline(never)]
+fn make_join<K: Sink>(p: &mut Parts, t: Tid, u: Tid, out: &mut Tracer<'_, K>)
+    requires caller { CanCall p.old t }
+    requires can { CanMake (objects_in p.old) (thread_at p.old.machine t) (call.Join u) }
+    ensures { Does K.text K.faults (makes_call (flat_bodies p.old.code) (by t (call.Join u))) p.old p.new out.old out.new }
+{
+    make_call(p, t, &Call::Join(u), out);
+}
+
+// `pthread_cancel`.
+#[inline(never)]
+fn make_cancel<K: Sink>(p: &mut Parts, t: Tid, u: Tid, out: &mut Tracer<'_, K>)
+    requires caller { CanCall p.old t }
+    requires can { CanMake (objects_in p.old) (thread_at p.old.machine t) (call.Cancel u) }
+    ensures { Does K.text K.faults (makes_call (flat_bodies p.old.code) (by t (call.Cancel u))) p.old p.new out.old out.new }
+{
+    make_call(p, t, &Call::Cancel(u), out);
+}
+
+// `pthread_setschedprio`.
+#[inline(never)]
+fn make_setprio<K: Sink>(p: &mut Parts, t: Tid, u: Tid, prio: Prio, out: &mut Tracer<'_, K>)
+    requires caller { CanCall p.old t }
+    requires can { CanMake (objects_in p.old) (thread_at p.old.machine t) (call.Setprio u prio) }
+    ensures { Does K.text K.faults (makes_call (flat_bodies p.old.code) (by t (call.Setprio u prio))) p.old p.new out.old out.new }
+{
+    make_call(p, t, &Call::Setprio(u, prio), out);
+}
+
+// `kill`.
+#[inline(never)]
+fn make_kill<K: Sink>(p: &mut Parts, t: Tid, signal: u8, out: &mut Tracer<'_, K>)
+    requires caller { CanCall p.old t }
+    requires can { CanMake (objects_in p.old) (thread_at p.old.machine t) (call.Kill signal) }
+    ensures { Does K.text K.faults (makes_call (flat_bodies p.old.code) (by t (call.Kill signal))) p.old p.new out.old out.new }
+{
+    make_call(p, t, &Call::Kill(signal), out);
+}
+
+// `sem_wait`.
+#[inline(never)]
+fn make_sem_wait<K: Sink>(p: &mut Parts, t: Tid, k: ObjId, out: &mut Tracer<'_, K>)
+    requires caller { CanCall p.old t }
+    requires can { CanMake (objects_in p.old) (thread_at p.old.machine t) (call.SemWait k) }
+    ensures { Does K.text K.faults (makes_call (flat_bodies p.old.code) (by t (call.SemWait k))) p.old p.new out.old out.new }
+{
+    make_call(p, t, &Call::SemWait(k), out);
+}
+
+// `pthread_cond_wait`.
+#[inline(never)]
+fn make_wait<K: Sink>(p: &mut Parts, t: Tid, c: ObjId, k: ObjId, out: &mut Tracer<'_, K>)
+    requires caller { CanCall p.old t }
+    requires can { CanMake (objects_in p.old) (thread_at p.old.machine t) (call.Wait c k) }
+    ensures { Does K.text K.faults (makes_call (flat_bodies p.old.code) (by t (call.Wait c k))) p.old p.new out.old out.new }
+{
+    make_call(p, t, &Call::Wait(c, k), out);
+}
+
+// `pthread_cond_signal`.
+#[inline(never)]
+fn make_signal<K: Sink>(p: &mut Parts, t: Tid, c: ObjId, out: &mut Tracer<'_, K>)
+    requires caller { CanCall p.old t }
+    requires can { CanMake (objects_in p.old) (thread_at p.old.machine t) (call.Signal c) }
+    ensures { Does K.text K.faults (makes_call (flat_bodies p.old.code) (by t (call.Signal c))) p.old p.new out.old out.new }
+{
+    make_call(p, t, &Call::Signal(c), out);
+}
+
+// `sigwaitinfo`.
+#[inline(never)]
+fn make_sigwaitinfo<K: Sink>(p: &mut Parts, t: Tid, set: SigSet, out: &mut Tracer<'_, K>)
+    requires caller { CanCall p.old t }
+    requires can { CanMake (objects_in p.old) (thread_at p.old.machine t) (call.Sigwaitinfo set) }
+    ensures { Does K.text K.faults (makes_call (flat_bodies p.old.code) (by t (call.Sigwaitinfo set))) p.old p.new out.old out.new }
+{
+    make_call(p, t, &Call::Sigwaitinfo(set), out);
+}
+
+// `mq_send`.
+#[inline(never)]
+fn make_send<K: Sink>(
+    p: &mut Parts,
+    t: Tid,
+    q: ObjId,
+    len: u32,
+    prio: u8,
+    v: Operand,
+    out: &mut Tracer<'_, K>,
+)
+    requires caller { CanCall p.old t }
+    requires can { CanMake (objects_in p.old) (thread_at p.old.machine t) (call.MqSend q len prio v) }
+    ensures { Does K.text K.faults (makes_call (flat_bodies p.old.code) (by t (call.MqSend q len prio v))) p.old p.new out.old out.new }
+{
+    make_call(p, t, &Call::MqSend(q, len, prio, v), out);
+}
+
+// `mq_receive`.
+#[inline(never)]
+fn make_receive<K: Sink>(p: &mut Parts, t: Tid, q: ObjId, out: &mut Tracer<'_, K>)
+    requires caller { CanCall p.old t }
+    requires can { CanMake (objects_in p.old) (thread_at p.old.machine t) (call.MqReceive q) }
+    ensures { Does K.text K.faults (makes_call (flat_bodies p.old.code) (by t (call.MqReceive q))) p.old p.new out.old out.new }
+{
+    make_call(p, t, &Call::MqReceive(q), out);
 }

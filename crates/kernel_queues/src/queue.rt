@@ -70,7 +70,21 @@ impl MessageQueue {
         self.values[node as usize] = value;
     }
 
+    #[inline(always)]
     pub(crate) fn take(&mut self) -> Option<u64>
+        ensures value { result ≡ next_value self.old }
+        ensures rest { self.new ≡ without_next self.old }
+        ensures room { IfSome result (λ _. has_room self.new ≡ true) }
+    {
+        if self.arrivals.highest().is_none() {
+            return None;
+        }
+        self.take_in_full()
+    }
+
+    // The same, also where there is none.
+    #[inline(never)]
+    fn take_in_full(&mut self) -> Option<u64>
         ensures value { result ≡ next_value self.old }
         ensures rest { self.new ≡ without_next self.old }
         ensures room { IfSome result (λ _. has_room self.new ≡ true) }

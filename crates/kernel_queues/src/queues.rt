@@ -63,6 +63,7 @@ impl Queues {
 
     /// The value of the next message, the oldest of the greatest priority, which leaves the queue: then there is room for another. None
     /// exactly where the queue is empty, and then nothing changes.
+    #[inline(always)]
     pub fn take(&mut self, q: ObjId) -> Option<u64>
         requires { q < length self.old }
         ensures value { result ≡ next_value (queue_in self.old q) }

@@ -42,6 +42,22 @@ impl Parts {
         self.tell_return::<K, 0>(by.thread, call_name(by.call), res, value, out);
     }
 
+    /// The same. Each way to it has its own functions.
+    #[inline(always)]
+    pub fn returns_by<K: Sink, const WAY: usize>(
+        &mut self,
+        by: &Caller<'_>,
+        res: Res,
+        value: u64,
+        out: &mut Tracer<'_, K>,
+    )
+        requires { by.now.thread < length self.old.names }
+        ensures { Does K.text K.faults (returns (caller by.now) res value) self.old self.new out.old out.new }
+    {
+        self.answer_thread(by.thread, res, value);
+        self.tell_return::<K, WAY>(by.thread, call_name(by.call), res, value, out);
+    }
+
     /// The caller blocks; its wait takes the next serial. A mutex that it waits for is owned, and to wait for it closes no cycle.
     #[inline(always)]
     #[tactic(auto, using(crate::proofs::Waits::awaits_none))]

@@ -44,6 +44,7 @@ impl Parts {
 
     /// The value of the next message, the oldest of the greatest priority, which leaves the queue: then there is room for another. `None`
     /// exactly where the queue is empty, and then nothing changes.
+    #[inline(always)]
     pub fn take_message(&mut self, q: ObjId) -> Option<u64>
         requires { q < length self.old.machine.queues }
         ensures value { result ≡ next_value (queue_at self.old.machine q) }

@@ -30,6 +30,7 @@ impl Named {
     }
 
     /// That thread, where there is one.
+    #[inline(always)]
     pub(crate) fn take_in(&mut self, t: &Option<Tid>)
         requires { IfSome t.now (λ u. u < 256) }
         ensures { TakesIn t.now self.old.bits self.new.bits }

@@ -174,6 +174,7 @@ pub(crate) fn place_with_number(
 }
 
 // Puts the whole of an event that has a thread and two numbers.
+#[inline(always)]
 fn place_with_numbers(
     text: &mut [u8],
     at: usize,

@@ -4,4 +4,4 @@ use Rattle.kernel_state.proofs.Does.{then_does}
 use Rattle.calls_queues.proofs.sends.hand_to_receiver.Goals as goal
 
 pub returns : goal.returns
-returns g c = then_does (wakes_behind c.args.receiver res.Zero c.args.value) c.returns.ensures c.wake.ensures
+returns g c = then_does (wakes_behind c.args.receiver res.Zero c.args.value) c.returns_by.ensures c.wake.ensures
