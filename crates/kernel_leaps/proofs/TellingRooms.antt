@@ -106,7 +106,7 @@ opened_rooms script rooms are t lines size is one =
         slots = omega (arith, room);
         number = ap (λ (h : Held). length h.texts) is.told ∙ so_many rooms.most ∙ most;
         lines = omega (arith, size, whole, lines_room);
-        seen = subst (IsMemoryOf script.decls t.desk.told.texts) (sym is.seen) (memory_none script.decls t.desk.told.texts rooms.most);
+        seen = subst (IsMemoryOf script.decls t.desk.told.texts) (sym is.seen) (memory_none script.decls t.desk.told.texts rooms.most rooms.most (ap (λ (h : Held). h.texts) is.told));
         subjects = subst (HasRooms script rooms.longest) (sym is.subjects) (rooms_hold script rooms are);
       });
     }

@@ -1,9 +1,9 @@
 -- What was seen of facts last, and the texts that tell it.
-use Rattle.std.proofs.Common.{◌≡◌, ◌≢◌, ◌∙◌, ◌<◌, ◌≤◌, ◌⊎◌, Bool, List, None, Option, Some, [], ◌∷◌, ap, append-nil, arith, false, inl, inr, length, refl, subst, sym, true, ℕ}
-use Rattle.std.specs.Prelude.{is_some, replicate, slice_index_or, slice_set, ◌+◌, ◌-◌, ◌/◌, ◌%◌, ◌^◌, ◌==◌}
-use Rattle.std.proofs.lemmas.Nat.Bits.{bit_at_ones}
+use Rattle.std.proofs.Common.{◌≡◌, ◌≢◌, ◌∙◌, ◌<◌, ◌≤◌, ◌⊎◌, Bool, List, None, Option, Some, [], ◌∷◌, ap, append-nil, arith, false, inl, inr, length, refl, subst, suc, sym, true, zero, ℕ}
+use Rattle.std.specs.Prelude.{is_some, replicate, slice_index_or, slice_set, ◌==◌}
 use Rattle.std.proofs.lemmas.List.{get_or-replicate, get_or-set_other, get_or-set_same, get_or_past, length-replicate, set_past}
 use Rattle.words_script.specs.declared.decl.Decl.{Decl}
+use Rattle.parts_texts.specs.Slots.{no_texts}
 use Rattle.parts_texts.specs.Texts.{Next}
 use Rattle.rules_facts.specs.Fact.{Fact}
 use Rattle.kernel_texts.specs.Lines.{fact_text, facts_text}
@@ -129,30 +129,20 @@ module _ (decls : List Decl) (texts : List (List ℕ)) (m n : Memory) (at : ℕ)
         quiet = λ i off. quiet_by i (apart i at) off;
       }))
 
--- the bit of a fact whose text is empty was cleared
-module _ (decls : List Decl) (texts : List (List ℕ)) (m n : Memory) (at : ℕ) (facts : n.facts ≡ m.facts) (others : AreSameElse at m.busy n.busy) (none : slice_index_or texts at [] ≡ [])
-    (h : IsMemoryOf decls texts m) where
-  still_empty : (i : ℕ) → (i ≡ at) ⊎ ((i < at) ⊎ (at < i)) → may_tell i n.busy ≡ false → slice_index_or texts i [] ≡ []
-  still_empty i (inl is) off = ap (λ (j : ℕ). slice_index_or texts j []) is ∙ none
-  still_empty i (inr other) off = h.quiet i (sym (others i (unlike i at other)) ∙ off)
-
-  pub memory_empty : IsMemoryOf decls texts n
-  memory_empty = record {
-    told = λ i. subst (λ (fs : List FactSeen). TellsIfAny decls (fact_seen (slice_index_or fs i seen.Unseen)) (slice_index_or texts i [])) (sym facts) (h.told i);
-    quiet = λ i off. still_empty i (apart i at) off;
-  }
-
 -- ---- nothing is seen
 
 read_replicate : {X : Type 0} (n i : ℕ) (x : X) → (i < n) ⊎ (n ≤ i) → slice_index_or (replicate n x) i x ≡ x
 read_replicate n i x (inl low) = get_or-replicate n i x x low
 read_replicate n i x (inr high) = let long = length-replicate n x in get_or_past (replicate n x) i x (omega (arith, long, high))
 
-all_set : (n i : ℕ) → may_tell i (replicate n (2 ^ 64 - 1)) ≡ true
-all_set n i = rw (read_replicate n (i / 64) (2 ^ 64 - 1) (within (i / 64) n), bit_at_ones 64 (i % 64) (omega arith)) refl
+none_in : (n i : ℕ) → slice_index_or (no_texts n) i [] ≡ []
+none_in zero i = refl
+none_in (suc n) zero = refl
+none_in (suc n) (suc i) = none_in n i
 
-pub memory_none : (decls : List Decl) (texts : List (List ℕ)) (n : ℕ) → IsMemoryOf decls texts (no_memory n)
-memory_none decls texts n = record {
+-- and no text tells anything
+pub memory_none : (decls : List Decl) (texts : List (List ℕ)) (n k : ℕ) → texts ≡ no_texts k → IsMemoryOf decls texts (no_memory n)
+memory_none decls texts n k none = record {
   told = λ i. subst (λ (k : FactSeen). TellsIfAny decls (fact_seen k) (slice_index_or texts i [])) (sym (read_replicate n i seen.Unseen (within i n))) tt;
-  quiet = λ i off. absurd (clash (may_tell i (no_memory n).busy) (all_set (n / 64 + 1) i) off);
+  quiet = λ i off. ap (λ (ts : List (List ℕ)). slice_index_or ts i []) none ∙ none_in k i;
 }

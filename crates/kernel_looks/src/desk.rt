@@ -129,7 +129,6 @@ impl Desk {
         ensures seen { (decls : List Decl) → IsMemoryOf decls self.old.told.texts self.old.seen → IsMemoryOf decls self.new.told.texts self.new.seen }
     {
         if self.was_empty() {
-            self.seen.note_empty(self.at);
             self.at += 1;
             return;
         }

@@ -162,6 +162,7 @@ fn tell_waiters(
     desk.keep(next, failed, &see_line(parts, &line));
 }
 
+#[inline(always)]
 fn look_at_waiters(
     parts: &Parts,
     decls: &Declared<'_>,

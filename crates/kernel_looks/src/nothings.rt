@@ -61,8 +61,21 @@ impl Desk {
         1
     }
 
-    /// The look goes over so many facts that tell nothing.
+    /// The look goes over so many facts that tell nothing. Mostly one word shows that they told nothing.
+    #[inline(always)]
     pub(crate) fn go_over_nothings(&mut self, count: usize)
+        ensures { WentKnown self.old self.new (nothings count) }
+    {
+        let empty = self.go_over_empty(count);
+        if empty == count {
+            return;
+        }
+        self.go_over_others(count - empty);
+    }
+
+    // The same, of which some may have told something.
+    #[inline(never)]
+    fn go_over_others(&mut self, count: usize)
         ensures { WentKnown self.old self.new (nothings count) }
     {
         let mut gone = 0;

@@ -66,7 +66,7 @@ AreSameElse i old new = (k : ℕ) → k ≢ i → may_tell k new ≡ may_tell k 
 
 -- nothing is seen so far
 abbrev pub no_memory : ℕ → Memory
-no_memory count = record { facts = replicate count seen.Unseen; busy = replicate (count / 64 + 1) (2 ^ 64 - 1) }
+no_memory count = record { facts = replicate count seen.Unseen; busy = replicate (count / 64 + 1) 0 }
 
 -- each text tells what is seen of its fact, and is empty where its bit is clear
 pub record IsMemoryOf (decls : List Decl) (texts : List (List ℕ)) (m : Memory) : Type 0 where

@@ -1,5 +1,5 @@
 //! What is seen of a fact as a value, so that no text is written of one that is the same as last.
-ghost use Rattle.std.specs.Prelude.{ℕ, ◌≡◌, ◌<◌, ◌≤◌, ◌+◌, ◌^◌, IfOk, false, is_some, length, slice_index_or, slice_set, true};
+ghost use Rattle.std.specs.Prelude.{ℕ, ◌≡◌, ◌<◌, ◌≤◌, ◌+◌, ◌%◌, ◌^◌, IfOk, false, is_some, length, slice_index_or, slice_set, true};
 ghost use Rattle.rules_lists.specs.Lists.{list_of};
 ghost use Rattle.rules_facts.specs.Fact.{on_list, replenishments};
 ghost use Rattle.rules_facts.specs.Threads.{cancelability_fact, mask_fact, pending_fact, thread_fact};
@@ -13,7 +13,7 @@ use crate::seen::{Seen, is_as_seen, see};
 use kernel_lines::LineSort;
 use kernel_state::Parts;
 use kernel_texts::ThreadRow;
-use parts_bits::words::{first_bit, with_bit, without_bit};
+use parts_bits::words::{first_bit, has_no_bit, with_bit, without_bit};
 use parts_filled::filled;
 use parts_server::Replenish;
 use std::alloc::{AllocError, Global};
@@ -290,7 +290,7 @@ impl SeenFacts {
     {
         Ok(SeenFacts {
             facts: filled(alloc, count, FactSeen::Unseen)?,
-            busy: filled(alloc, count / 64 + 1, u64::MAX)?,
+            busy: filled(alloc, count / 64 + 1, 0)?,
         })
     }
 
@@ -337,8 +337,8 @@ impl SeenFacts {
         }
     }
 
-    /// The text of a fact is empty.
-    pub fn note_empty(&mut self, number: usize)
+    // The text of a fact is empty.
+    fn note_empty(&mut self, number: usize)
         ensures facts { self.new.facts ≡ self.old.facts }
         ensures others { AreSameElse number self.old.busy self.new.busy }
     {
@@ -366,22 +366,32 @@ impl SeenFacts {
         most.min((end - bit) as usize)
     }
 
+    // Whether none of the 64 facts from a number on may tell, where the first bit of a word is that of the first.
+    #[inline(always)]
+    fn is_quiet_word(&self, number: usize) -> bool
+        requires { number % 64 ≡ 0 }
+        ensures { result ≡ true → (i : ℕ) → i < 64 → may_tell (number + i) self.now.busy ≡ false }
+    {
+        let index = number / 64;
+        if index >= self.busy.len() {
+            return false;
+        }
+        has_no_bit(self.busy[index])
+    }
+
     // The same, as far as the words of their bits show, one behind the other.
     #[inline(never)]
     fn quiet_in_words(&self, number: usize, most: usize) -> usize
-        requires { number + most < 2 ^ 64 }
+        requires small { number + most < 2 ^ 64 }
+        requires first { number % 64 ≡ 0 }
         ensures few { result ≤ most }
         ensures quiet { (i : ℕ) → i < result → may_tell (number + i) self.now.busy ≡ false }
     {
         let mut quiet = 0;
-        while quiet < most {
-            let more = self.quiet_in_word(number + quiet, most - quiet);
-            if more == 0 {
-                return quiet;
-            }
-            quiet += more;
+        while most - quiet >= 64 && self.is_quiet_word(number + quiet) {
+            quiet += 64;
         }
-        quiet
+        quiet + self.quiet_in_word(number + quiet, most - quiet)
     }
 
     /// How many facts from a number on told nothing, of so many, as far as the bits show. Mostly one word shows it.

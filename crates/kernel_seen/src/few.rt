@@ -4,13 +4,11 @@ ghost use Rattle.rules_lists.specs.Lists.{list_of};
 ghost use Rattle.rules_machine.specs.Threads.{queue_at};
 ghost use Rattle.rules_facts.specs.Fact.{on_list};
 ghost use Rattle.rules_facts.specs.Queues.{messages_fact};
-ghost use Rattle.kernel_threads.specs.Plain.{message_of};
-ghost use Rattle.kernel_seen.specs.FewSeen.{messages_in, threads_in};
+ghost use Rattle.kernel_seen.specs.FewSeen.{messages_in, small_message, threads_in};
 ghost use Rattle.kernel_seen.specs.FactSeen.{IsOf, fact_seen};
 
 use crate::fact_seen::FactSeen;
 use kernel_state::Parts;
-use kernel_threads::Message;
 use words_numbers::{ObjId, Prio};
 
 // How many are kept at most.
@@ -23,11 +21,18 @@ pub struct FewThreads {
     pub threads: [u16; MOST],
 }
 
-/// At most 8 messages.
+/// A message whose value is small.
+#[derive(Clone, Copy)]
+pub struct SmallMessage {
+    pub value: u32,
+    pub priority: u8,
+}
+
+/// At most 8 messages of small values.
 #[derive(Clone, Copy)]
 pub struct FewMessages {
     pub count: u32,
-    pub messages: [Message; MOST],
+    pub messages: [SmallMessage; MOST],
 }
 
 // ---- the threads on a list
@@ -71,12 +76,13 @@ pub fn see_list(parts: &Parts, p: Prio) -> FactSeen
 // ---- the messages of a queue
 
 // Whether that message is at a place of a queue, in the order of arrival.
-fn is_message_at(parts: &Parts, q: ObjId, place: u32, message: &Message) -> bool
+fn is_message_at(parts: &Parts, q: ObjId, place: u32, message: &SmallMessage) -> bool
     requires { q < length parts.now.machine.queues }
-    ensures { result ≡ true → slice_get (queue_at parts.now.machine q).messages place ≡ Some (message_of message.now) }
+    ensures { result ≡ true → slice_get (queue_at parts.now.machine q).messages place ≡ Some (small_message message.now) }
 {
     match parts.message(q, place) {
-        Some(held) => held.priority() == message.priority && held.value() == message.value,
+        Some(held) => held.priority() == message.priority
+            && held.value() == u64::from(message.value),
         None => false,
     }
 }
@@ -109,23 +115,26 @@ pub(crate) fn are_held(parts: &Parts, q: ObjId, few: &FewMessages) -> bool
     is_end_of_queue(parts, q, count)
 }
 
-/// What is seen of the messages of a queue; nothing where it holds more than are kept.
+/// What is seen of the messages of a queue; nothing where it holds more than are kept, or a large value.
 pub(crate) fn see_messages(parts: &Parts, q: ObjId) -> FactSeen
     requires { q < length parts.now.machine.queues }
     ensures { IsOf (messages_fact parts.now.machine q) (fact_seen result) }
 {
-    let mut messages = [Message {
-        priority: 0,
+    let mut messages = [SmallMessage {
         value: 0,
+        priority: 0,
     }; MOST];
     let mut count = 0;
     while count < MOST as u32 {
         match parts.message(q, count) {
             None => return FactSeen::Messages(q, FewMessages { count, messages }),
             Some(held) => {
-                messages[count as usize] = Message {
+                if held.value() > u64::from(u32::MAX) {
+                    return FactSeen::Unseen;
+                }
+                messages[count as usize] = SmallMessage {
+                    value: held.value() as u32,
                     priority: held.priority(),
-                    value: held.value(),
                 };
                 count += 1;
             }

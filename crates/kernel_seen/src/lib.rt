@@ -17,7 +17,7 @@ mod objects_seen;
 mod seen;
 
 pub use fact_seen::{FactSeen, SeenFacts, is_list, is_of_thread, see_thread};
-pub use few::{FewMessages, FewThreads, see_list};
+pub use few::{FewMessages, FewThreads, SmallMessage, see_list};
 pub use kept_line::{FewWaiters, is_line, see_line};
 pub use objects_seen::{is_of_object, see_object};
 pub use seen::Seen;

@@ -1,8 +1,8 @@
 //! What is told of threads.
-ghost use Rattle.std.specs.Prelude.{◌≡◌, ◌≤◌, ◌<◌, Option, decimal, length, not};
+ghost use Rattle.std.specs.Prelude.{◌≡◌, ◌≤◌, ◌<◌, Option, Some, decimal, length, not};
 ghost use Rattle.std.specs.List.{list_any};
 ghost use Rattle.rules_bodies.specs.declared.cursor.Cursor.{Cursor};
-ghost use Rattle.rules_machine.specs.State.{Frame};
+ghost use Rattle.rules_machine.specs.State.{Frame, for_time};
 ghost use Rattle.rules_machine.specs.Threads.{is_main, no_thread, thread_at};
 ghost use Rattle.rules_server.specs.declared.Replenish.{Replenish};
 ghost use Rattle.script_lex.specs.Joined.{after_blanks};
@@ -60,6 +60,33 @@ fn put_due<K: Sink>(out: &mut Printer<'_, K>, due: Option<Tick>)
     }
 }
 
+// Prints that a thread sleeps until an instant.
+fn put_sleeper<K: Sink>(
+    out: &mut Printer<'_, K>,
+    parts: &Parts,
+    decls: &Declared<'_>,
+    t: Tid,
+    waiting: &Waiting,
+    until: Tick,
+)
+    requires known { t < length parts.now.names }
+    requires asleep { wait_of waiting.now.wait ≡ for_time }
+    requires until { waiting.now.due ≡ Some until }
+    ensures text { Puts K.text K.faults out.old out.new (fact_text decls.now (blocked_thread t (priorities_of parts.now.machine t) (block_of (waiting_of waiting.now)))) }
+    ensures short { HasShortText decls.now (blocked_thread t (priorities_of parts.now.machine t) (block_of (waiting_of waiting.now))) }
+{
+    out.line(&[
+        Keyword(b"thread"),
+        Name(thread_name(decls, t)),
+        Keyword(b"blocked"),
+        Number(u64::from(parts.thread(t).assigned().get())),
+        Number(u64::from(parts.exec(t).get())),
+        Keyword(call_text(call_name(&waiting.call))),
+        Keyword(b"until"),
+        Number(until.get()),
+    ]);
+}
+
 // Prints that a thread is blocked.
 fn put_blocked<K: Sink>(
     out: &mut Printer<'_, K>,
@@ -102,7 +129,10 @@ fn put_status<K: Sink>(out: &mut Printer<'_, K>, parts: &Parts, decls: &Declared
             Number(u64::from(parts.thread(t).assigned().get())),
             Number(u64::from(parts.exec(t).get())),
         ]),
-        Status::Blocked(waiting) => put_blocked(out, parts, decls, t, &waiting),
+        Status::Blocked(waiting) => match (&waiting.wait, waiting.due) {
+            (Wait::Time, Some(until)) => put_sleeper(out, parts, decls, t, &waiting, until),
+            _ => put_blocked(out, parts, decls, t, &waiting),
+        },
         Status::Ended => out.line(&[subject, name, Keyword(b"ended")]),
     }
 }

@@ -1,11 +1,11 @@
 use Rattle.std.proofs.Common.{◌≡◌, ◌∙◌, add-one, arith, refl, sym}
-use Rattle.kernel_threads.specs.Plain.{message_of}
+use Rattle.kernel_seen.specs.FewSeen.{small_message}
 use Rattle.kernel_seen.proofs.FewSeen.{like_more, taken_all}
 use Rattle.kernel_seen.proofs.few.are_held.Goals as goal
 
 pub loop-place-preserved : goal.loop-place-preserved
 loop-place-preserved c =
-    rw add-one (like_more message_of _ c.args.few.now.messages c.loop-place.place _ _ (omega arith) refl (c.is_message_at.ensures c.if-not-is_message_at.false) c.loop-place.invariant)
+    rw add-one (like_more small_message _ c.args.few.now.messages c.loop-place.place _ _ (omega arith) refl (c.is_message_at.ensures c.if-not-is_message_at.false) c.loop-place.invariant)
 
 pub returns : goal.returns
 returns c e =

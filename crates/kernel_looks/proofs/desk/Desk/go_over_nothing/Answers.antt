@@ -1,5 +1,4 @@
 use Rattle.std.proofs.Common.{refl, ◌+◌}
-use Rattle.kernel_looks.proofs.FactsSeen.{memory_empty}
 use Rattle.kernel_looks.proofs.Looking.{went_same, went_seen}
 use Rattle.kernel_looks.proofs.desk.Desk.go_over_nothing.Goals as goal
 
@@ -8,8 +7,3 @@ returns-then-was_empty-clause-went c =
     let d = c.args.self.now in
     let e = c.if-was_empty.true in
     went_seen d (record d { at = d.at + 1 }) _ _ refl (went_same d (record d { at = d.at + 1 }) _ (c.was_empty.ensures.place e) (c.was_empty.ensures.subject e) (c.was_empty.ensures.empty e) refl)
-
-pub returns-then-was_empty-clause-seen : goal.returns-then-was_empty-clause-seen
-returns-then-was_empty-clause-seen c decls h =
-    let d = c.args.self.now in
-    memory_empty decls d.told.texts d.seen c.note_empty.new.self d.at c.note_empty.ensures.facts c.note_empty.ensures.others (c.was_empty.ensures.empty c.if-was_empty.true) h

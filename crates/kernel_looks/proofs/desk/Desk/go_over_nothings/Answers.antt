@@ -1,25 +1,16 @@
-use Rattle.std.proofs.Common.{◌+◌, ◌≡◌, arith, refl, subst, sym, ℕ}
+use Rattle.std.proofs.Common.{◌≡◌, ◌+◌, ◌-◌, arith, subst, sym, ℕ}
 use Rattle.kernel_looks.specs.Nothings.{WentKnown, nothings}
-use Rattle.kernel_looks.proofs.Runs.{known_both, known_none, nothings_sum}
+use Rattle.kernel_looks.proofs.Runs.{known_both, nothings_sum}
 use Rattle.kernel_looks.proofs.desk.Desk.go_over_nothings.Goals as goal
 
-pub loop-gone-init : goal.loop-gone-init
-loop-gone-init c = record { few = omega arith; went = known_none _ }
-
-pub loop-gone-preserved : goal.loop-gone-preserved
-loop-gone-preserved c =
-    let step = c.go_over_next-gone.ensures in
-    let gone = c.loop-gone.gone in
-    let more = c.go_over_next-gone.result in
-    let few = step.few in
-    let before = c.loop-gone.invariant.few in
-    record {
-      few = omega (arith, few, before);
-      went = subst (WentKnown c.args.self.now c.go_over_next-gone.new.self) (sym (nothings_sum gone more (gone + more) refl)) (known_both _ _ _ _ _ c.loop-gone.invariant.went step.went);
-    }
+pub returns-then-empty-count : goal.returns-then-empty-count
+returns-then-empty-count c =
+    subst (λ (n : ℕ). WentKnown c.args.self.now c.go_over_empty-empty.new.self (nothings n)) c.if-empty-count.true c.go_over_empty-empty.ensures.went
 
 pub returns : goal.returns
 returns c =
-    let few = c.loop-gone.invariant.few in
-    let all : c.loop-gone.gone ≡ c.args.count = omega (arith, few, c.loop-gone-test.false) in
-    subst (λ (n : ℕ). WentKnown c.args.self.now c.loop-gone.self (nothings n)) all c.loop-gone.invariant.went
+    let empty = c.go_over_empty-empty.result in
+    let few = c.go_over_empty-empty.ensures.few in
+    let all : c.args.count ≡ empty + (c.args.count - empty) = omega (arith, few) in
+    subst (WentKnown c.args.self.now c.go_over_others.new.self) (sym (nothings_sum empty (c.args.count - empty) c.args.count all))
+    (known_both _ _ _ _ _ c.go_over_empty-empty.ensures.went c.go_over_others.ensures)

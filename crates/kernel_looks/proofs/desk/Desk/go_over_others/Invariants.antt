@@ -1,7 +1,7 @@
 use Rattle.std.proofs.Common.{◌≤◌}
 use Rattle.std.specs.Prelude.{◌-◌}
 use Rattle.kernel_looks.specs.Nothings.{WentKnown, nothings}
-use Rattle.kernel_looks.proofs.desk.Desk.go_over_nothings.Given as goal
+use Rattle.kernel_looks.proofs.desk.Desk.go_over_others.Given as goal
 
 abbrev pub decreases-loop-gone : goal.decreases-loop-gone
 decreases-loop-gone l = l.count - l.gone

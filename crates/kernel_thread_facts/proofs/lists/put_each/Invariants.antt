@@ -5,7 +5,7 @@ use Rattle.script_writer.specs.Line.{spelled}
 use Rattle.script_writer.specs.Words.{is_nil}
 use Rattle.script_printer.specs.Puts.{Puts}
 use Rattle.kernel_texts.specs.Lines.{begun}
-use Rattle.kernel_thread_facts.proofs.lists.put_list.Given as goal
+use Rattle.kernel_thread_facts.proofs.lists.put_each.Given as goal
 
 abbrev pub invariant-loop-t : goal.invariant-loop-t
 invariant-loop-t g l =

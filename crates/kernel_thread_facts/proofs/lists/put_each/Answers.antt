@@ -6,7 +6,7 @@ use Rattle.script_writer.specs.Canon.{Words}
 use Rattle.script_printer.proofs.Puts.{puts_nothing}
 use Rattle.kernel_texts.proofs.Lines.{one_each, told_some, words_all, words_more}
 use Rattle.kernel_texts.proofs.Puts.{puts_end, puts_more}
-use Rattle.kernel_thread_facts.proofs.lists.put_list.Goals as goal
+use Rattle.kernel_thread_facts.proofs.lists.put_each.Goals as goal
 
 pub loop-t-init : goal.loop-t-init
 loop-t-init g c = record { text = puts_nothing _ _ _; flag = refl }
