@@ -3,6 +3,8 @@
 //! Proved: each function puts the bytes that it says behind those before the place, and answers the place behind them.
 #![tactic(auto)]
 
+mod digits;
 mod place;
 
-pub use place::{place_bytes, place_front, place_within, place_word};
+pub use digits::{place_digits, place_eight, place_numeral, place_pair};
+pub use place::{place_byte, place_bytes, place_front, place_within, place_word};

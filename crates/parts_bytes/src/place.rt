@@ -1,8 +1,18 @@
 //! Bytes put at a place of a buffer. Each function answers the place behind them.
-ghost use Rattle.std.specs.Prelude.{◌≡◌, ◌+◌, ◌≤◌, length, take};
+ghost use Rattle.std.specs.Prelude.{◌≡◌, ◌+◌, ◌<◌, ◌≤◌, ◌∷◌, [], length, take};
 ghost use Rattle.parts_bytes.specs.Placed.{Placed};
 
 use std::simd::Simd;
+
+/// One byte.
+#[inline(always)]
+pub fn place_byte(buf: &mut [u8], at: usize, byte: u8) -> usize
+    requires { at < length buf.old }
+    ensures { Placed buf.old buf.new at (byte ∷ []) result }
+{
+    buf[at] = byte;
+    at + 1
+}
 
 /// The first N bytes, by one load and one store.
 #[inline(always)]

@@ -1,7 +1,6 @@
 mod Examples
 pub mod Lines
 pub mod Placed
-pub mod Pairs
 pub mod ShortLines
 pub mod Prints
 pub mod Tells

@@ -2,8 +2,6 @@
 use Rattle.std.proofs.Common.{◌<◌, ◌/◌, ◌%◌, ◌^◌, decimal, ◌≡◌, ℕ, ◌+◌, ◌-◌, ◌≤◌, List, [], ◌∷◌, ◌++◌, length, refl, ap, sym, ◌∙◌, arith, append_assoc, length-append, subst}
 use Rattle.itoa.proofs.Decimal.{pair, decimal_pair}
 use Rattle.std.specs.List.{join_with_byte}
-use Rattle.parts_bytes.specs.Placed.{Placed}
-use Rattle.parts_bytes.proofs.Placed.{placed_then}
 use Rattle.parts_tracer.specs.Placed.{AreShared, words_behind}
 use Rattle.words_trace.specs.Text.{line_of_words}
 use Rattle.parts_tracer.specs.ShortLines.{AreWhole}
@@ -17,12 +15,6 @@ time_by_pair digits now first fits behind near (ends, some, shared) =
     let last : now - first ≡ now % 100 = omega arith in
     ap (λ (t : List ℕ). t ++ pair (now - first)) (shared ∙ ap decimal same) ∙ ap (λ (n : ℕ). decimal (now / 100) ++ pair n) last
     ∙ sym (decimal_pair now (omega arith) fits)
-
--- the digits of a number above 99 are those of its hundreds and two more
-pub placed_by_pair : {old mid new : List ℕ} {at next end : ℕ} (n : ℕ) → 100 ≤ n → n < 2 ^ 64
-    → Placed old mid at (decimal (n / 100)) next → Placed mid new next (pair (n % 100)) end → Placed old new at (decimal n) end
-placed_by_pair {old} {mid} {new} {at} {next} {end} n large fits hundreds two =
-    subst (λ (t : List ℕ). Placed old new at t end) (sym (decimal_pair n large fits)) (placed_then hundreds two)
 
 -- the words of a line, the first without a blank
 pub line_by_words : (word : List ℕ) (words : List (List ℕ)) → line_of_words (word ∷ words) ≡ word ++ words_behind words

@@ -2,9 +2,8 @@
 ghost use Rattle.std.specs.Prelude.{◌≡◌, ◌≤◌, ◌<◌, ◌+◌, ◌-◌, ◌%◌, ◌^◌, decimal, length, take};
 ghost use Rattle.parts_bytes.specs.Placed.{Placed};
 
-use crate::place::{place_digits, place_eight, place_pair};
 use itoa::Buffer;
-use parts_bytes::{place_within, place_word};
+use parts_bytes::{place_digits, place_eight, place_pair, place_within, place_word};
 use std::marker::Model;
 
 // Times from here on share no digits: there would be more than 16.

@@ -9,8 +9,8 @@ ghost use Rattle.words_numbers.specs.Words.{res_text, sig_code_text};
 use crate::Names;
 use crate::call_name::place_call_text;
 use crate::outcome_name::{place_code_text, place_result_text};
-use crate::place::{place_byte, place_number, place_numeral};
-use parts_bytes::place_word;
+use crate::place::place_number;
+use parts_bytes::{place_byte, place_numeral, place_word};
 use words_numbers::{Res, SigCode, Tid};
 use words_trace::{BudgetView, CallName, Event, Report};
 

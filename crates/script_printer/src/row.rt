@@ -4,8 +4,7 @@ ghost use Rattle.parts_bytes.specs.Placed.{Placed};
 ghost use Rattle.script_lex.specs.Joined.{after_blanks, joined_words};
 ghost use Rattle.script_writer.specs.Line.{AreShort, IsShort, spelled, total_width, width};
 
-use itoa::Buffer;
-use parts_bytes::{place_bytes, place_word};
+use parts_bytes::{place_bytes, place_numeral, place_word};
 use script_writer::{Word, word_text};
 
 /// How many bytes a row has.
@@ -46,8 +45,7 @@ pub(crate) fn place_number(row: &mut [u8], number: u64) -> usize
     ensures placed { Placed row.old row.new 0 (decimal number) result }
     ensures within { result ≤ 20 }
 {
-    let mut buffer = Buffer::new();
-    place_word(row, 0, buffer.format(number).as_bytes())
+    place_numeral(row, 0, number)
 }
 
 // Puts a word at a place. The text of most words stands somewhere already.
@@ -61,10 +59,7 @@ fn place_text(row: &mut [u8], at: usize, word: &Word<'_>) -> usize
     match word {
         Word::Keyword(text) => place_word(row, at, text),
         Word::Name(text) => place_word(row, at, text),
-        Word::Number(number) => {
-            let mut buffer = Buffer::new();
-            place_word(row, at, buffer.format(*number).as_bytes())
-        }
+        Word::Number(number) => place_numeral(row, at, *number),
         _ => place_bytes(row, at, word_text(word).as_slice()),
     }
 }

@@ -1,6 +1,6 @@
 use Rattle.std.proofs.Common.{arith}
-use Rattle.parts_tracer.proofs.Placed.{placed_by_pair}
-use Rattle.parts_tracer.proofs.place.place_four.Goals as goal
+use Rattle.parts_bytes.proofs.Pairs.{placed_by_pair}
+use Rattle.parts_bytes.proofs.digits.place_four.Goals as goal
 
 pub returns-clause-placed : goal.returns-clause-placed
 returns-clause-placed c =

@@ -1,8 +1,8 @@
 use Rattle.std.proofs.Common.{◌≡◌, ◌/◌, ℕ, arith, subst}
 use Rattle.std.specs.Prelude.{decimal}
 use Rattle.parts_bytes.specs.Placed.{Placed}
-use Rattle.parts_tracer.proofs.Placed.{placed_by_pair}
-use Rattle.parts_tracer.proofs.place.place_eight.Goals as goal
+use Rattle.parts_bytes.proofs.Pairs.{placed_by_pair}
+use Rattle.parts_bytes.proofs.digits.place_eight.Goals as goal
 
 pub returns-clause-placed : goal.returns-clause-placed
 returns-clause-placed c =
