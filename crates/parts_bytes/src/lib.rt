@@ -1,4 +1,4 @@
-//! Bytes put into a buffer, one place after another.
+//! Bytes, and digits of numbers, put into a buffer, one place after another.
 //!
 //! Proved: each function puts the bytes that it says behind those before the place, and answers the place behind them.
 #![tactic(auto)]
