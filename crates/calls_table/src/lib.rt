@@ -5,4 +5,7 @@
 
 mod table;
 
-pub use table::make_call;
+pub use table::{
+    make_call, make_queue_call, make_scheduling_call, make_signal_call, make_sync_call,
+    make_thread_call,
+};

@@ -10,7 +10,10 @@ ghost use Rattle.kernel_leaps.specs.Completes.{CanMake};
 ghost use Rattle.kernel_state.specs.Kernel.{by};
 ghost use Rattle.kernel_state.specs.Does.{Does};
 
-use calls_table::make_call;
+use calls_table::{
+    make_call, make_queue_call, make_scheduling_call, make_signal_call, make_sync_call,
+    make_thread_call,
+};
 use kernel_state::Parts;
 use parts_io::Sink;
 use parts_tracer::Tracer;
@@ -82,10 +85,10 @@ pub(crate) fn make_short<K: Sink, const WAY: usize>(
     ensures { Does K.text K.faults (makes_call (flat_bodies p.old.code) (by t (call_of_short short))) p.old p.new out.old out.new }
 {
     match short {
-        ShortCall::Yield => make_call(p, t, &Call::Yield, out),
+        ShortCall::Yield => make_scheduling_call(p, t, &Call::Yield, out),
         ShortCall::Lock(k) => make_lock(p, t, k, out),
-        ShortCall::Unlock(k) => make_call(p, t, &Call::Unlock(k), out),
-        ShortCall::Post(k) => make_call(p, t, &Call::SemPost(k), out),
+        ShortCall::Unlock(k) => make_sync_call(p, t, &Call::Unlock(k), out),
+        ShortCall::Post(k) => make_sync_call(p, t, &Call::SemPost(k), out),
         ShortCall::Sleep(n) => make_sleep(p, t, u64::from(n), out),
     }
 }
@@ -97,7 +100,7 @@ fn make_lock<K: Sink>(p: &mut Parts, t: Tid, k: ObjId, out: &mut Tracer<'_, K>)
     requires can { CanMake (objects_in p.old) (thread_at p.old.machine t) (call.Lock k) }
     ensures { Does K.text K.faults (makes_call (flat_bodies p.old.code) (by t (call.Lock k))) p.old p.new out.old out.new }
 {
-    make_call(p, t, &Call::Lock(k), out);
+    make_sync_call(p, t, &Call::Lock(k), out);
 }
 
 // `nanosleep`.
@@ -107,7 +110,7 @@ fn make_sleep<K: Sink>(p: &mut Parts, t: Tid, n: u64, out: &mut Tracer<'_, K>)
     requires can { CanMake (objects_in p.old) (thread_at p.old.machine t) (call.Nanosleep n) }
     ensures { Does K.text K.faults (makes_call (flat_bodies p.old.code) (by t (call.Nanosleep n))) p.old p.new out.old out.new }
 {
-    make_call(p, t, &Call::Nanosleep(n), out);
+    make_scheduling_call(p, t, &Call::Nanosleep(n), out);
 }
 
 // `pthread_create`.
@@ -117,7 +120,7 @@ fn make_create<K: Sink>(p: &mut Parts, t: Tid, u: Tid, out: &mut Tracer<'_, K>)
     requires can { CanMake (objects_in p.old) (thread_at p.old.machine t) (call.Create u) }
     ensures { Does K.text K.faults (makes_call (flat_bodies p.old.code) (by t (call.Create u))) p.old p.new out.old out.new }
 {
-    make_call(p, t, &Call::Create(u), out);
+    make_scheduling_call(p, t, &Call::Create(u), out);
 }
 
 // `pthread_join`.
@@ -127,7 +130,7 @@ fn make_join<K: Sink>(p: &mut Parts, t: Tid, u: Tid, out: &mut Tracer<'_, K>)
     requires can { CanMake (objects_in p.old) (thread_at p.old.machine t) (call.Join u) }
     ensures { Does K.text K.faults (makes_call (flat_bodies p.old.code) (by t (call.Join u))) p.old p.new out.old out.new }
 {
-    make_call(p, t, &Call::Join(u), out);
+    make_thread_call(p, t, &Call::Join(u), out);
 }
 
 // `pthread_cancel`.
@@ -137,7 +140,7 @@ fn make_cancel<K: Sink>(p: &mut Parts, t: Tid, u: Tid, out: &mut Tracer<'_, K>)
     requires can { CanMake (objects_in p.old) (thread_at p.old.machine t) (call.Cancel u) }
     ensures { Does K.text K.faults (makes_call (flat_bodies p.old.code) (by t (call.Cancel u))) p.old p.new out.old out.new }
 {
-    make_call(p, t, &Call::Cancel(u), out);
+    make_thread_call(p, t, &Call::Cancel(u), out);
 }
 
 // `pthread_setschedprio`.
@@ -147,7 +150,7 @@ fn make_setprio<K: Sink>(p: &mut Parts, t: Tid, u: Tid, prio: Prio, out: &mut Tr
     requires can { CanMake (objects_in p.old) (thread_at p.old.machine t) (call.Setprio u prio) }
     ensures { Does K.text K.faults (makes_call (flat_bodies p.old.code) (by t (call.Setprio u prio))) p.old p.new out.old out.new }
 {
-    make_call(p, t, &Call::Setprio(u, prio), out);
+    make_scheduling_call(p, t, &Call::Setprio(u, prio), out);
 }
 
 // `kill`.
@@ -157,7 +160,7 @@ fn make_kill<K: Sink>(p: &mut Parts, t: Tid, signal: u8, out: &mut Tracer<'_, K>
     requires can { CanMake (objects_in p.old) (thread_at p.old.machine t) (call.Kill signal) }
     ensures { Does K.text K.faults (makes_call (flat_bodies p.old.code) (by t (call.Kill signal))) p.old p.new out.old out.new }
 {
-    make_call(p, t, &Call::Kill(signal), out);
+    make_signal_call(p, t, &Call::Kill(signal), out);
 }
 
 // `sem_wait`.
@@ -167,7 +170,7 @@ fn make_sem_wait<K: Sink>(p: &mut Parts, t: Tid, k: ObjId, out: &mut Tracer<'_, 
     requires can { CanMake (objects_in p.old) (thread_at p.old.machine t) (call.SemWait k) }
     ensures { Does K.text K.faults (makes_call (flat_bodies p.old.code) (by t (call.SemWait k))) p.old p.new out.old out.new }
 {
-    make_call(p, t, &Call::SemWait(k), out);
+    make_sync_call(p, t, &Call::SemWait(k), out);
 }
 
 // `pthread_cond_wait`.
@@ -177,7 +180,7 @@ fn make_wait<K: Sink>(p: &mut Parts, t: Tid, c: ObjId, k: ObjId, out: &mut Trace
     requires can { CanMake (objects_in p.old) (thread_at p.old.machine t) (call.Wait c k) }
     ensures { Does K.text K.faults (makes_call (flat_bodies p.old.code) (by t (call.Wait c k))) p.old p.new out.old out.new }
 {
-    make_call(p, t, &Call::Wait(c, k), out);
+    make_sync_call(p, t, &Call::Wait(c, k), out);
 }
 
 // `pthread_cond_signal`.
@@ -187,7 +190,7 @@ fn make_signal<K: Sink>(p: &mut Parts, t: Tid, c: ObjId, out: &mut Tracer<'_, K>
     requires can { CanMake (objects_in p.old) (thread_at p.old.machine t) (call.Signal c) }
     ensures { Does K.text K.faults (makes_call (flat_bodies p.old.code) (by t (call.Signal c))) p.old p.new out.old out.new }
 {
-    make_call(p, t, &Call::Signal(c), out);
+    make_sync_call(p, t, &Call::Signal(c), out);
 }
 
 // `sigwaitinfo`.
@@ -197,7 +200,7 @@ fn make_sigwaitinfo<K: Sink>(p: &mut Parts, t: Tid, set: SigSet, out: &mut Trace
     requires can { CanMake (objects_in p.old) (thread_at p.old.machine t) (call.Sigwaitinfo set) }
     ensures { Does K.text K.faults (makes_call (flat_bodies p.old.code) (by t (call.Sigwaitinfo set))) p.old p.new out.old out.new }
 {
-    make_call(p, t, &Call::Sigwaitinfo(set), out);
+    make_signal_call(p, t, &Call::Sigwaitinfo(set), out);
 }
 
 // `mq_send`.
@@ -215,7 +218,7 @@ fn make_send<K: Sink>(
     requires can { CanMake (objects_in p.old) (thread_at p.old.machine t) (call.MqSend q len prio v) }
     ensures { Does K.text K.faults (makes_call (flat_bodies p.old.code) (by t (call.MqSend q len prio v))) p.old p.new out.old out.new }
 {
-    make_call(p, t, &Call::MqSend(q, len, prio, v), out);
+    make_queue_call(p, t, &Call::MqSend(q, len, prio, v), out);
 }
 
 // `mq_receive`.
@@ -225,5 +228,5 @@ fn make_receive<K: Sink>(p: &mut Parts, t: Tid, q: ObjId, out: &mut Tracer<'_, K
     requires can { CanMake (objects_in p.old) (thread_at p.old.machine t) (call.MqReceive q) }
     ensures { Does K.text K.faults (makes_call (flat_bodies p.old.code) (by t (call.MqReceive q))) p.old p.new out.old out.new }
 {
-    make_call(p, t, &Call::MqReceive(q), out);
+    make_queue_call(p, t, &Call::MqReceive(q), out);
 }
