@@ -46,7 +46,6 @@ fn hand_out<K: Sink>(
 }
 
 /// `mq_receive`, and with a time `mq_timedreceive`.
-#[inline(always)]
 pub fn mq_receive<K: Sink>(
     p: &mut Parts,
     by: &Caller<'_>,

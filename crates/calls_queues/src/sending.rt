@@ -16,7 +16,6 @@ use words_numbers::{ObjId, Tick};
 use words_script::Operand;
 
 /// `mq_send`, and with a time `mq_timedsend`.
-#[inline(always)]
 pub(crate) fn send<K: Sink>(
     p: &mut Parts,
     by: &Caller<'_>,

@@ -14,7 +14,6 @@ use parts_tracer::Tracer;
 use words_numbers::{Res, Tick};
 
 /// `nanosleep` and `clock_nanosleep`.
-#[inline(always)]
 pub(crate) fn sleep_until<K: Sink>(
     p: &mut Parts,
     by: &Caller<'_>,
