@@ -44,11 +44,12 @@ pub struct FactTexts {
 }
 
 impl FactTexts {
-    /// No text, with rooms as large as the facts of the script's run need. `AllocError` comes where there is no memory for them.
-    pub fn open(alloc: Global, script: &Script) -> Result<FactTexts, AllocError>
+    /// No text, with rooms as large as the facts of the script's run need. `AllocError` comes where there is no memory for them. They come in a
+    /// box, whose drop is one call on each way out of who holds them.
+    pub fn open(alloc: Global, script: &Script) -> Result<Box<FactTexts>, AllocError>
         requires runnable { IsRunnable script.now }
         requires few { HasFewObjects script.now }
-        ensures { IfOk result (λ t. HaveRoomsFor script.now t) }
+        ensures { IfOk result (λ t. HaveRoomsFor script.now t.value) }
     {
         let rooms = rooms_of(script);
         if rooms.room >= MOST_BYTES {
@@ -56,11 +57,12 @@ impl FactTexts {
         }
         // of each line what is in front of the text, and a byte more
         let lines = rooms.room + 22 * rooms.most + 1;
-        Ok(FactTexts {
+        let texts = FactTexts {
             desk: Desk::open(alloc, &rooms, lines)?,
             next: NextText::open(alloc, rooms.longest)?,
             are_steady: false,
-        })
+        };
+        Ok(Box::new(alloc, texts)?)
     }
 
     /// Takes in the subjects of the facts, and what is told of the state before the run.
