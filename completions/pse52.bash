@@ -34,14 +34,14 @@ _pse52_measure() {
 _pse52_sweep() {
     local word=${COMP_WORDS[COMP_CWORD]}
     case $word in
-        -*) mapfile -t COMPREPLY < <(compgen -W '--jobs --sshlogin --output --by --columns --plot --over --program --engine --anew --help' -- "$word") ;;
+        -*) mapfile -t COMPREPLY < <(compgen -W '--jobs --sshlogin --output --by --columns --plot --over --program --engine --anew --version --help' -- "$word") ;;
         *) mapfile -t COMPREPLY < <(compgen -f -X '!*.toml' -- "$word"; compgen -d -- "$word") ;;
     esac
 }
 _pse52_live() {
     local word=${COMP_WORDS[COMP_CWORD]}
     case $word in
-        -*) mapfile -t COMPREPLY < <(compgen -W '--core --tick --times --handlers --program --help' -- "$word") ;;
+        -*) mapfile -t COMPREPLY < <(compgen -W '--core --tick --times --handlers --program --version --help' -- "$word") ;;
         *) mapfile -t COMPREPLY < <(compgen -f -- "$word") ;;
     esac
 }
@@ -55,7 +55,7 @@ _pse52_lab() {
 _pse52_from_ftrace() {
     local word=${COMP_WORDS[COMP_CWORD]}
     case $word in
-        -*) mapfile -t COMPREPLY < <(compgen -W '--trace --help' -- "$word") ;;
+        -*) mapfile -t COMPREPLY < <(compgen -W '--trace --version --help' -- "$word") ;;
         *) mapfile -t COMPREPLY < <(compgen -f -- "$word") ;;
     esac
 }

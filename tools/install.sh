@@ -31,6 +31,7 @@ if [ -n "$remove" ]; then
 fi
 
 program=$(bin/pse52 --which) || exit 1
+rm -rf "$doc"
 mkdir -p "$lib/release" "$lib/tools" "$lib/bin" "$doc" "$root/bin" "$root/share/man/man1" \
     "$root/share/bash-completion/completions" "$root/share/zsh/site-functions" "$root/share/fish/vendor_completions.d" || exit 1
 install -m 755 "$program" "$lib/release/pse52" || exit 1
@@ -60,15 +61,19 @@ for folder in tools/*/; do
     done
 done
 install -m 644 docs/*.1 "$root/share/man/man1/"
-install -m 644 README.md LICENSE LICENSE-MIT LICENSE-APACHE NOTICE CHANGELOG.md docs/*.md "$doc/"
+install -m 644 README.md LICENSE LICENSE-MIT LICENSE-APACHE NOTICE CHANGELOG.md "$doc/"
 install -m 644 crates/parts_links/LICENSE-circular-buffer "$doc/"
-mkdir -p "$doc/examples/real" "$lib/examples"
+# The pages and the course stand to one another as in the repository, so that what they name is there.
+mkdir -p "$doc/docs/growth" "$doc/examples/real" "$doc/examples/sweeps" "$lib/examples"
+install -m 644 docs/*.md docs/*.svg "$doc/docs/"
+install -m 644 docs/growth/* "$doc/docs/growth/"
 install -m 644 examples/*.task "$lib/examples/"
-install -m 644 examples/*.task examples/*.rta "$doc/examples/"
+install -m 644 examples/*.md examples/*.task examples/*.trace examples/*.svg examples/*.rta "$doc/examples/"
 install -m 644 examples/real/*.task "$doc/examples/real/"
+install -m 644 examples/sweeps/*.toml examples/sweeps/*.in examples/sweeps/*.svg "$doc/examples/sweeps/"
 for command in $commands; do
     install -m 644 completions/pse52.bash "$root/share/bash-completion/completions/$command"
 done
 install -m 644 completions/_pse52 "$root/share/zsh/site-functions/_pse52"
 install -m 644 completions/pse52.fish "$root/share/fish/vendor_completions.d/pse52.fish"
-echo "installed pse52 $(cat VERSION) in $root"
+echo "installed pse52 $(cat VERSION) in $root; its pages are in $doc"

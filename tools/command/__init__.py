@@ -43,6 +43,11 @@ def say(tool: str, text: str) -> None:
     print(f"{tool}: {text}", file=sys.stderr)
 
 
+def told(wrong: Exception) -> str:
+    """What is wrong; of a file its name and why, without the number of the error."""
+    return f"{wrong.filename}: {wrong.strerror}" if isinstance(wrong, OSError) and wrong.filename else str(wrong)
+
+
 def carried_out(tool: str, work: Callable[[], int], statuses: Mapping[type[Exception], int]) -> int:
     """Does the work of a command. Of an exception it is said what is wrong; `statuses` has what is returned then."""
     try:
@@ -53,7 +58,7 @@ def carried_out(tool: str, work: Callable[[], int], statuses: Mapping[type[Excep
         say(tool, f"{wrong}; --help tells all")
         return Status.USAGE
     except tuple(statuses) as wrong:
-        say(tool, str(wrong))
+        say(tool, told(wrong))
         return next(status for kind, status in statuses.items() if isinstance(wrong, kind))
     except OSError as error:
         say(tool, f"{error.filename or 'the trace'} was not read: {error.strerror}")

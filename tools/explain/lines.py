@@ -3,7 +3,7 @@ from __future__ import annotations
 
 import re
 
-from forms import DECLARED, GREATEST_NUMBER, OPERAND, RANGES, REAL, RESULTS, SERVER_WORDS, SIGNAL, SIGNAL_SET, is_place
+from forms import DECLARED, GREATEST_NUMBER, OPERAND, RANGES, REAL, SERVER_WORDS, SIGNAL, SIGNAL_SET, is_place
 from reader import Entry, FaultKind, is_number, operand_fault, read_line
 
 from .found import Found, Word, listed, words_in
@@ -11,7 +11,7 @@ from .patterns import LETTERS, MEANT, SERVER, Forms, best_form, meant_by, neares
 
 _CLOCKS = {REAL: REAL, "realtime": REAL, "clock_realtime": REAL, "monotonic": "", "clock_monotonic": ""}
 """What people write for a clock, and the word for it."""
-_BYTES = {0: "a byte 0", 11: "a vertical tab", 12: "a form feed", 13: "a Windows line end", 27: "an escape", 127: "a delete"}
+_BYTES = {0: "a zero byte", 11: "a vertical tab", 12: "a form feed", 13: "a Windows line end", 27: "an escape", 127: "a delete"}
 
 
 def bad_byte(number: int, line: bytes) -> Found:
@@ -87,10 +87,9 @@ def _unknown_word(number: int, words: list[Word], forms: Forms) -> Found:
     at, expected = _first_difference(texts, forms)
     near = nearest(texts[at], expected)
     behind = " ".join(texts[:at])
-    if texts[0] in ("if", "unless"):
-        expected = list(RESULTS)
+    pattern = "" if texts[0] in ("if", "unless") else f"; the nearest pattern is `{pattern_of(form)}`"
     return Found(1, number, FaultKind.UnknownWord, words[at], f"'{texts[at]}' may not stand behind `{behind}`",
-                 f"did you mean `{near}`?" if near else f"there stands {listed(expected)}; the nearest pattern is `{pattern_of(form)}`")
+                 f"did you mean `{near}`?" if near else f"there stands {listed(expected)}{pattern}")
 
 
 def _first_difference(texts: list[str], forms: Forms) -> tuple[int, list[str]]:
@@ -120,7 +119,7 @@ def _server(texts: list[str]) -> tuple[str, str] | None:
     if policy is None:
         return None
     behind = texts[texts.index(policy) + 1:]
-    numbers = [int(text) for text in behind[:next((i for i, text in enumerate(behind) if not is_number(text)), len(behind))]]
+    numbers = [_value(text) for text in behind[:next((i for i, text in enumerate(behind) if not is_number(text)), len(behind))]]
     five = "high priority, low priority, period, budget, and how many replenishments may be pending"
     if len(numbers) == 5 or len(numbers) == 0:
         return None
@@ -132,6 +131,12 @@ def _server(texts: list[str]) -> tuple[str, str] | None:
         return wrong, f"they are: {five}"
     names = " or ".join(SERVER[at] for at in missing)
     return wrong, f"missing is {names}: the five are {five}"
+
+
+def _value(text: str) -> int:
+    """The value of digits, where it is not far above the greatest number of a script."""
+    digits = text.lstrip("0")
+    return int(digits or "0") if len(digits) <= 19 else GREATEST_NUMBER + 1
 
 
 def _fits(numbers: list[int], missing: int) -> bool:
@@ -196,7 +201,7 @@ def _number(place: str, text: str) -> tuple[str, str]:
     if re.fullmatch(r"-[0-9]+", text):
         return wrong, "no number is negative"
     if re.fullmatch(r"0[xX][0-9a-fA-F]+", text):
-        return wrong, f"write it in decimal: {int(text, 16)}"
+        return wrong, f"write it in decimal: {int(text, 16)}" if len(text) <= 18 else "write it in decimal"
     if (unit := re.fullmatch(r"([0-9]+)([a-zA-Z]+)", text)) is not None:
         return wrong, f"write digits without a unit, as {unit[1]}: all times are in ticks"
     if re.fullmatch(r"[0-9]+[_,'][0-9_,']+|[0-9]+[eE][0-9]+", text):
@@ -224,7 +229,7 @@ def number_fault(entry: Entry, words: list[Word]) -> tuple[Word, str] | None:
     for want, word in zip(entry.form.words, words):
         if want in RANGES and word.text != "reg":
             least, most = RANGES[want]
-            value = int(word.text) if len(word.text.lstrip("0")) <= 19 else GREATEST_NUMBER + 1
+            value = _value(word.text)
             if not least <= value <= most:
                 bound = "10^18" if most == GREATEST_NUMBER else most
                 return word, f"{word.text} is out of the range of this number, {least} to {bound}"

@@ -39,10 +39,9 @@ def pattern_of(form: Form) -> str:
 
 def nearest(word: str, words: list[str]) -> str | None:
     """The word that was meant, if one is near."""
-    if word.lower() in words:
-        return word.lower()
-    found = get_close_matches(word.lower(), words, 1, 0.6)
-    return found[0] if found else None
+    small = {known.lower(): known for known in words}
+    found = [word.lower()] if word.lower() in small else get_close_matches(word.lower(), small, 1, 0.6)
+    return small[found[0]] if found else None
 
 
 def meant_by(word: str) -> str | None:

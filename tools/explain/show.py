@@ -1,6 +1,7 @@
 """Faults as they are printed."""
 from __future__ import annotations
 
+import re
 from itertools import groupby
 
 from reader import FaultKind, lines_of
@@ -8,6 +9,8 @@ from reader import FaultKind, lines_of
 from .found import Found
 
 SHOWN = 100  # columns of a line
+LONG = 64    # a word of the script that is longer is told by its beginning
+QUOTES = "'`"
 MANY = 3     # so many of one kind of bad byte are shown one by one; of more, the first
 
 
@@ -28,20 +31,25 @@ def shown(text: bytes, faults: list[Found]) -> str:
 
 def in_one_line_each(name: str, faults: list[Found]) -> str:
     """All faults, each in one line with the name of the file, as editors read them."""
-    return "".join(f"{name}:{fault.line}:{fault.word.column if fault.word else 1}: {fault.kind.name}: {fault.wrong}"
-                   f"{'; ' if fault.mend else ''}{fault.mend}\n" for fault in faults)
+    return "".join(f"{name}:{fault.line}:{fault.word.column if fault.word else 1}: {fault.kind.name}: {_short(fault.wrong)}"
+                   f"{'; ' if fault.mend else ''}{_short(fault.mend)}\n" for fault in faults)
+
+
+def _short(told: str) -> str:
+    """What is told, with the beginning alone of words that are too long to read."""
+    return re.sub(rf"[!-~]{{{LONG + 1},}}", lambda word: f"{word[0][:LONG - 8]}...{word[0][-1] if word[0][-1] in QUOTES else ''}", told)
 
 
 def _fault(fault: Found, lines: list[bytes]) -> str:
     place = f"line {fault.line}" + (f", column {fault.word.column}" if fault.word else "")
-    told = [f"{place}: {fault.kind.name}: {fault.wrong}"]
+    told = [f"{place}: {fault.kind.name}: {_short(fault.wrong)}"]
     if fault.word is not None:
         told += _line(lines, fault.line, fault.word.column, max(1, len(fault.word.text.rstrip(" "))))
     for aside in fault.asides:
         if aside.line <= len(lines):
             told += [*_line(lines, aside.line), f"      | {aside.why}"]
     if fault.mend:
-        told.append(f"  fix: {fault.mend}")
+        told.append(f"  fix: {_short(fault.mend)}")
     return "\n".join(told) + "\n"
 
 

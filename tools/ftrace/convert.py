@@ -12,6 +12,10 @@ GREATEST_REALTIME = 99
 IDLE_PID = "0"
 
 
+class NoLog(Exception):
+    """Why nothing of what was read is of the log that the map is for."""
+
+
 @dataclass
 class Converter:
     """The lines so far, who runs since when, the ticks of each thread, and what markers said of each server's totals."""
@@ -23,6 +27,7 @@ class Converter:
     ticks: dict[str, int] = field(default_factory=dict)
     totals: dict[str, list[str]] = field(default_factory=dict)
     over: set[str] = field(default_factory=set)
+    end: int = 0
 
     def take(self, entry: Entry) -> None:
         """One entry, at the instant that is nearest to its time."""
@@ -75,10 +80,15 @@ class Converter:
             case ["pse52", word, name, *numbers] if word == TOTALS and len(numbers) == 4:
                 self.totals[name] = numbers
 
-    def text(self, end: int) -> str:
-        """The trace up to an instant, with its closing lines."""
-        self.charge(end)
-        return "".join(f"{line}\n" for line in [*self.lines, f"{end} end", *map(self.closing, self.names.names.values())])
+    def text(self) -> str:
+        """The trace, with its closing lines."""
+        return "".join(f"{line}\n" for line in [*self.lines, f"{self.end} end", *map(self.closing, self.names.names.values())])
+
+    def remarks(self) -> list[str]:
+        """What the map has and the log has not, and the other way round."""
+        unseen = [f"no line of the log has '{of}', which the map calls {name}" for of, name in self.names.names.items() if name not in self.ticks]
+        known = {*self.names.names.values(), OTHER, "idle", ""}
+        return unseen + [f"a marker names '{name}', which the map does not" for name in self.ticks if name not in known]
 
     def closing(self, name: str) -> str:
         line = f"thread {name} ticks {self.ticks.get(name, 0)}"
@@ -88,16 +98,24 @@ class Converter:
         return f"{line} high {high} init {init} refilled {refilled} capacity {capacity}"
 
 
-def trace_of(entries: list[Entry], names: NameMap) -> str:
-    """The trace of a log. Without an origin in the map the first entry is at instant 0."""
+def converted(entries: list[Entry], names: NameMap) -> Converter:
+    """The trace of a log. Without an origin in the map the first entry is at instant 0. Raises NoLog."""
+    if not entries:
+        raise NoLog("standard input has no line of ftrace's text")
     kept = [entry for entry in entries if names.cpu is None or entry.cpu == names.cpu]
-    if names.origin is None and kept:
+    if not kept:
+        raise NoLog(f"no line of the log is of processor {names.cpu}, which the map names")
+    if names.origin is None:
         names.origin = kept[0].time
     converter = Converter(names)
-    kept = [entry for entry in kept if entry.time >= (names.origin or 0)]
+    kept = [entry for entry in kept if entry.time >= names.origin]
+    if not kept:
+        raise NoLog("the whole log is before the origin that the map names")
     for entry in kept:
         converter.take(entry)
-    return converter.text(names.ticks(kept[-1].time) if kept else 0)
+    converter.end = names.ticks(kept[-1].time)
+    converter.charge(converter.end)
+    return converter
 
 
 def head_of(names: NameMap) -> str:

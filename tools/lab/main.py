@@ -14,6 +14,7 @@ from command import Status, Words, carried_out
 from view.source import horizon_of
 
 from .desk import Desk
+from .gallery import gallery
 from .parts import parts
 from .server import GREATEST_SCRIPT, Lab
 
@@ -37,13 +38,15 @@ def command_of(words: list[str]) -> argparse.Namespace:
 
 
 def fragment_of(said: str | None) -> str:
-    """What stands behind the address to begin with: that of a link, or a script. Raises OSError."""
+    """What stands behind the address to begin with: that of a link, or a script, one of the course by its name. Raises OSError."""
     if said is None:
         return ""
     link = LINK.fullmatch(said)
     if link is not None:
         return "#" + link[1]
     script = Path(said).read_bytes()[:GREATEST_SCRIPT]
+    if Path(said).stem in (example.name for example in gallery() if example.script.encode() == script):
+        return f"#example={Path(said).stem}"
     horizon = horizon_of(script)
     return f"#script={quote(script.decode('ascii', 'replace'), safe='')}" + (f"&horizon={horizon}" if horizon is not None else "")
 
@@ -56,7 +59,7 @@ def served(words: list[str]) -> int:
     try:
         lab = Lab(said.port, secrets.token_urlsafe(24), parts(said.plain), desk)
     except (OSError, OverflowError) as error:
-        raise NoPort(f"the port {said.port} cannot be had: {error}") from None
+        raise NoPort(f"the port {said.port} cannot be had: {getattr(error, 'strerror', None) or error}") from None
     for pane in ("a", "b"):
         threading.Thread(target=desk.prepare, args=[pane], daemon=True).start()
     for asked in (signal.SIGINT, signal.SIGTERM):  # SIGINT too: a shell without a terminal has it ignored in the background

@@ -2,6 +2,7 @@
 from __future__ import annotations
 
 import argparse
+import os
 import signal
 import sys
 from enum import IntEnum
@@ -18,6 +19,7 @@ from .runner import NoLog, NotBuilt, build, last_core
 from .settings import Interrupted, NotAllowed, refused_by_kernel, why_not
 
 TOOL = "pse52-live"
+LEAST_TICK = 0.001  #: milliseconds
 
 
 class Status(IntEnum):
@@ -50,6 +52,10 @@ The trace that came out goes to standard output, all else to standard error.""")
     said = parser.read(words)
     if said.horizon < 0 or said.times < 1:
         raise Usage("N is at least 0, and T at least 1")
+    if said.tick is not None and not said.tick >= LEAST_TICK:
+        raise Usage(f"--tick is at least {LEAST_TICK} milliseconds")
+    if said.core not in (cores := sorted(os.sched_getaffinity(0))):
+        raise Usage(f"--core is one of {', '.join(map(str, cores))}")
     return said
 
 

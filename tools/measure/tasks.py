@@ -132,7 +132,7 @@ def fill_periodic(task: Task, before: Block, loop: Loop, behind: Block, costs: C
         raise NoTask("it does not add one period in each pass, before it sleeps")
     if not 1 <= steps[0] <= GREATEST_PERIOD:
         raise NoTask(f"its period is not between 1 and {GREATEST_PERIOD}")
-    if register_after(before) < task.phase:
+    if register_after(before) != task.phase:
         raise NoTask(f"it counts its releases from {register_after(before)}, and starts at {task.phase}")
     waits = [call.word for call in calls_in([*before, *loop.body[:at], *loop.body[at + 1:], *behind]) if may_wait(call)]
     if waits:

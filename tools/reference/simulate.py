@@ -80,6 +80,8 @@ def main(words: list[str]) -> Status:
     command = command_of(words)
     if command is None:
         status, text = Status.USAGE, b"usage: pse52 COMMAND NUMBERS\n"
+        print("simulate.py: a script comes on standard input; write: python3 tools/reference/simulate.py run N < SCRIPT, "
+              "with show N, detail N or upgrade as well", file=sys.stderr)
     else:
         word, number = command
         status, text = answer(sys.stdin.buffer.read(GREATEST_TEXT + 1), number, stage, checked, word)

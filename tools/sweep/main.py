@@ -12,6 +12,7 @@ import time
 from enum import IntEnum
 from pathlib import Path
 
+from command import told
 from measure.measures import never_done
 
 from .engine import NoEngine, Work, results
@@ -204,7 +205,7 @@ def main(words: list[str]) -> Status:
     try:
         carried_out(said)
     except (WrongSweep, NamedNothing, OSError) as wrong:
-        print(f"pse52-sweep: {wrong}", file=sys.stderr)
+        print(f"pse52-sweep: {told(wrong)}", file=sys.stderr)
         return Status.REFUSED
     except (NoEngine, NoProgram, NoPlot) as missing:
         print(f"pse52-sweep: {missing}", file=sys.stderr)

@@ -98,6 +98,8 @@ def terminal_width(name: str, width: int | None) -> int | None:
 def traced(said: argparse.Namespace, progress: Progress) -> tuple[Trace, str]:
     """What is drawn, and its title where it has one: a script is run for its detail."""
     path = said.script or said.file
+    if path == Path("-"):
+        path = None
     source = path.open("rb") if path else standard_input()
     first = source.peek(1)[:1]
     if said.script is None and (not first or first.isdigit() or first == b"r"):

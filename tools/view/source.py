@@ -81,7 +81,7 @@ def _why(ended: subprocess.CompletedProcess[bytes]) -> str:
     said = (ended.stdout or ended.stderr).decode("ascii", "backslashreplace").strip().splitlines()
     if ended.returncode == REFUSED and said:
         number, kind = said[0].split(" ")[1::2]
-        return f"the script is refused at line {number}: {kind} (docs/SCRIPT.md, Faults, says what to do)"
+        return f"the script is refused at line {number}: {kind}; 'pse52 explain SCRIPT' tells all its faults, and what to do"
     return f"the program ended with the status {ended.returncode}" + (f": {said[-1]}" if said else "")
 
 

@@ -29,6 +29,7 @@ SIGNS: dict[tuple[State, str], tuple[str, str]] = {
     (State.OFF, ""): ("?", "not running and no more is told")}
 FRAMES = {False: ("*", "in a signal handler"), True: ("_", "in a cleanup handler")}
 OWNERS = "123456789abcdefghijklmnopqrstuvwxyz"
+UNSHOWN = "+"
 
 
 @dataclass(frozen=True, slots=True)
@@ -123,7 +124,7 @@ def owner_rows(timeline: Timeline, columns: Columns) -> list[tuple[str, str]]:
         row = [" "] * columns.count
         for start, end, owner, _ in mutex.bars:
             for column in range(columns.of(start), columns.of(end - 1) + 1):
-                row[column] = numbers.get(owner, "+")
+                row[column] = numbers.get(owner, UNSHOWN)
         rows.append((mutex.name, "".join(row).rstrip()))
     return rows
 
@@ -229,7 +230,11 @@ def legend(timeline: Timeline, columns: Columns, letters: dict[int, str]) -> lis
     if told:
         lines.append(", ".join(told))
     if timeline.mutexes:
-        lines.append("owners: " + ", ".join(f"{OWNERS[at % len(OWNERS)]} {thread.name}" for at, thread in enumerate(timeline.threads)))
+        owners = [f"{OWNERS[at % len(OWNERS)]} {thread.name}" for at, thread in enumerate(timeline.threads)]
+        names = {thread.name for thread in timeline.threads}
+        if any(bar[2] not in names for mutex in timeline.mutexes for bar in mutex.bars):
+            owners.append(f"{UNSHOWN} a thread that is not shown")
+        lines.append(f"owners: {', '.join(owners)}")
     marks = [f"{sign} {what}" for kind, (sign, what) in MARKS.items() if kind in kinds]
     if marks:
         lines.append(f"marks: {', '.join(marks)}")

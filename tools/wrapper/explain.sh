@@ -17,17 +17,30 @@ run_and_explain() {
                 "$program" "$@"
                 status=$?
             elif [ "$1" != check ] && [ "$1" != audit ] && folder=$(mktemp -d 2>/dev/null); then
-                [ ! -t 0 ] || say "the script is read from this terminal, up to Ctrl-D at a line's beginning; or name a file: pse52 $* FILE"
+                tell_terminal "$@"
                 kept_script=$folder/script
                 trap 'rm -rf "$folder"' EXIT
                 tee "$kept_script" 2>/dev/null | "$program" "$@"
                 status=$?
             else
+                tell_terminal "$@"
                 "$program" "$@"
                 status=$?
             fi ;;
     esac
     explain_status "$@" >&2
+}
+
+# What is read where nothing was named, and it comes from a terminal.
+tell_terminal() {
+    [ -t 0 ] || return 0
+    case $1 in
+        check) read_here='a script, a line %% and a trace are' files='the files' names='SCRIPT TRACE' ;;
+        audit) read_here='a head, a line %% and a trace are' files='the files' names='HEAD TRACE' ;;
+        rta) read_here='the tasks are' files='a file' names=FILE ;;
+        *) read_here='the script is' files='a file' names=FILE ;;
+    esac
+    say "$read_here read from this terminal, up to Ctrl-D at a line's beginning; or name $files: pse52 $* $names"
 }
 
 # The faults of the script, as tools/explain shows them. Of another text, or where that cannot, the line that is refused.

@@ -86,13 +86,17 @@ takes_file() {
 # Takes a file as the input, where it can be read.
 open_input() {
     [ ! -d "$1" ] || { say "'$1' is a folder, and no text"; exit 4; }
-    [ -e "$1" ] || { say "there is no file '$1'"; exit 4; }
+    if [ ! -e "$1" ]; then
+        case $1 in --*) refuse "'$1' is no option and no file; 'pse52 --help' lists the options" ;; esac
+        say "there is no file '$1'"
+        exit 4
+    fi
     [ -r "$1" ] || { say "the file '$1' may not be read"; exit 4; }
     input=$1
 }
 
-# A script and a trace as one input, with the line between them: the command with its numbers, the script, the trace. Where the two differ
-# and somebody looks on, the line of the trace is shown.
+# A script and a trace as one input, with the line between them: the command with its numbers, the script, the trace. Where the two differ,
+# or the trace breaks a rule, and somebody looks on, the line of the trace is shown.
 divided() {
     open_input "$2"
     open_input "$3"
@@ -104,7 +108,8 @@ divided() {
     [ -z "$told" ] || printf '%s\n' "$told"
     number=${told#* }
     number=${number%%[!0-9]*}
-    if [ "$status" -eq 7 ] && [ -n "$number" ] && { [ -n "$explains" ] || [ -t 2 ]; }; then
+    case $status in 7 | 9) ;; *) number= ;; esac
+    if [ -n "$number" ] && { [ -n "$explains" ] || [ -t 2 ]; }; then
         say "line $number of $3: $(sed -n "${number}p" "$3")"
     fi
     exit "$status"
@@ -116,7 +121,7 @@ near() {
         count = split("run show detail check audit rta upgrade gen soak explain help version", names, " ")
         for (i = 1; i <= count; i++) {
             name = names[i]
-            if (distance(have, name) <= 1 + (length(name) > 4)) { print name; exit }
+            if (distance(tolower(have), name) <= 1 + (length(name) > 4)) { print name; exit }
         }
     }
     function distance(a, b,    i, j, row, before, cost) {
@@ -145,7 +150,7 @@ answer_words() {
         run | show | detail | check | rta | gen | soak) refuse_operands "$@" ;;
         upgrade | audit)
             [ "$1 $#" != 'audit 3' ] || divided audit "$2" "$3"
-            refuse "$1 takes no number; $(usage_of "$1")" ;;
+            refuse_files "$@" ;;
         -*) refuse "'$1' is no option; 'pse52 --help' lists the options" ;;
         [0-9]*) refuse "a command comes before its numbers, as in: pse52 run $1 SCRIPT" ;;
         *.task | *.rta) refuse "a command and its number come before the file: pse52 run 100 $1" ;;
@@ -184,6 +189,16 @@ refuse_operands() {
     refuse "$1 has a word too many; $(usage_of "$1")"
 }
 
+# A command without a number whose files are missing or too many.
+refuse_files() {
+    case ${2#-} in *[!0-9]* | '') ;; *) refuse "$1 takes no number; $(usage_of "$1")" ;; esac
+    case "$1 $#" in
+        'audit 2') refuse "audit takes a head and a trace; $(usage_of audit)" ;;
+        'upgrade 2') open_input "$2" ;;
+    esac
+    refuse "$1 has a word too many; $(usage_of "$1")"
+}
+
 # All faults of a script, by the tools beside the program: needs Python alone, and no program.
 explain_command() {
     lines=
@@ -197,5 +212,8 @@ explain_command() {
         exit 70
     fi
     [ "$#" -eq 0 ] || [ "$1" = - ] || open_input "$1"
+    if [ -z "$input" ] && [ -t 0 ] && [ -t 2 ]; then
+        say "the script is read from this terminal, up to Ctrl-D at a line's beginning; or name a file: pse52 explain FILE"
+    fi
     exec python3 "$top/tools/explain/main.py" ${lines:+"$lines"} "${input:--}"
 }

@@ -6,7 +6,7 @@ import sys
 import unittest
 from pathlib import Path
 
-from ftrace.convert import head_of, trace_of
+from ftrace.convert import NoLog, converted, head_of
 from ftrace.log import read_log
 from ftrace.names import WrongMap, read_map
 
@@ -39,7 +39,7 @@ thread urgent ticks 12
 
 def input_of(log: str) -> bytes:
     names = read_map((HERE / "server.map").read_text())
-    return f"{head_of(names)}%%\n{trace_of(read_log(log), names)}".encode()
+    return f"{head_of(names)}%%\n{converted(read_log(log), names).text()}".encode()
 
 
 class Ftrace(unittest.TestCase):
@@ -65,13 +65,30 @@ class Ftrace(unittest.TestCase):
 
     def test_an_origin_leaves_out_what_is_before_it(self) -> None:
         names = read_map("tick 1000\norigin 100.013\nthread server 811\n")
-        lines = trace_of(read_log(self.log), names).splitlines()
+        lines = converted(read_log(self.log), names).text().splitlines()
         self.assertEqual(lines[:3], ["0 start server", "0 dispatch server 8", "2 exhaust server"])
 
     def test_wrong_maps(self) -> None:
         for text in ("thread a 1\n", "tick 0\n", "tick x\n", "tick 1\nthread A 1\n", "tick 1\nthread a 1\nthread a 2\n", "tick 1\nfoo\n"):
             with self.assertRaises(WrongMap):
                 read_map(text)
+
+    def test_what_is_no_log(self) -> None:
+        for text, part in (("tick 1\n", "no line of ftrace's text"), ("tick 1\ncpu 7\n", "processor 7"), ("tick 1\norigin 999\n", "before the origin")):
+            with self.assertRaisesRegex(NoLog, part):
+                converted(read_log("" if part.startswith("no") else self.log), read_map(text))
+
+    def test_what_the_map_and_the_log_do_not_share(self) -> None:
+        names = read_map("tick 1000\nserver ghost 4711 10 3 4\nthread urgent urgent_task\n")
+        self.assertEqual(converted(read_log(self.log), names).remarks(),
+                         ["no line of the log has '4711', which the map calls ghost", "a marker names 'server', which the map does not"])
+
+    def test_wrong_words_and_files(self) -> None:
+        for words, text, status, part in (([], "", 1, "--help"), (["none.map"], "", 4, "none.map was not read"),
+                                          ([HERE / "server.log"], "", 2, "of the map"), ([HERE / "server.map"], "\xff", 2, "no line")):
+            ended = subprocess.run([TOP / "bin" / "pse52-from-ftrace", *words], input=text.encode("latin-1"), capture_output=True, check=False)
+            self.assertEqual((ended.returncode, ended.stdout, ended.stderr.count(b"\n")), (status, b"", 1), words)
+            self.assertIn(part, ended.stderr.decode())
 
     def test_the_command(self) -> None:
         done = subprocess.run([TOP / "bin" / "pse52-from-ftrace", "--trace", HERE / "server.map"], input=self.log, text=True,

@@ -5,6 +5,7 @@ import unittest
 
 from explain.text import faults_of
 from lab.gallery import EXAMPLES, FIRST, gallery
+from lab.main import fragment_of
 from simulate import Status, answer
 
 
@@ -14,6 +15,10 @@ class Gallery(unittest.TestCase):
         self.assertEqual(sorted(names), sorted(path.stem for path in EXAMPLES.glob("*.task")))
         self.assertEqual(tuple(names[:4]), FIRST)
         self.assertEqual(names[4:], sorted(names[4:]))
+
+    def test_one_of_the_course_is_linked_by_its_name(self) -> None:
+        self.assertEqual(fragment_of(str(EXAMPLES / "04_inversion.task")), "#example=04_inversion")
+        self.assertTrue(fragment_of(str(EXAMPLES / "real" / "acceptor_not_run.task")).startswith("#script="))
 
     def test_each_has_two_or_three_changes(self) -> None:
         for example in gallery():

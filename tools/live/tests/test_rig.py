@@ -10,10 +10,11 @@ import unittest
 from pathlib import Path
 from unittest import mock
 
+from command import Usage
 from live import main as command
 from live import rig, settings
 from live.due import REFERENCE, Side
-from live.main import Status
+from live.main import Status, words_of
 
 from .kept import CASES, log_of
 
@@ -134,6 +135,13 @@ class Command(unittest.TestCase):
     def test_words_that_are_no_command(self) -> None:
         self.assertEqual(self.status("one")[0], Status.USAGE)
         self.assertEqual(self.status("no_such_file", "5")[0], Status.USAGE)
+
+
+class WordsOfLive(unittest.TestCase):
+    def test_words_that_no_machine_can_do(self) -> None:
+        for words, part in (("--tick 0", "at least 0.001"), ("--tick nan", "at least 0.001"), ("--core 99999", "--core is one of"), ("--times 0", "at least 1")):
+            with self.assertRaisesRegex(Usage, part):
+                words_of(["s.task", "10", *words.split()])
 
 
 if __name__ == "__main__":

@@ -47,6 +47,7 @@ class Tasks(unittest.TestCase):
                 ("sem s 0\n" + thread("a", 5, "sem_wait s", 20), "its job waits in 'sem_wait'"),
                 (thread("a", 5, "add 1", 20), "it does not add one period"),
                 (thread("a", 5, "run 1", 20).replace("at 0", "at 7"), "it counts its releases from 0, and starts at 7"),
+                (thread("a", 5, "run 1", 20).replace("set 0", "set 5"), "it counts its releases from 5, and starts at 0"),
                 (thread("a", 5, "forever\nend", 20), "a loop in its job has no end"),
                 (thread("a", 5, "run 1", 20) + "action rt1 run h\nhandler h\nend\n", "signal handlers take ticks"),
                 (thread("a", 5, "setprio a 6", 20), "'setprio' changes")):

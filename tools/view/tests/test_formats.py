@@ -48,6 +48,12 @@ class Text(unittest.TestCase):
     def test_a_picture_drawn_by_hand(self) -> None:
         self.assertEqual(view(["text"], text_of(TWO_BUDGETS)).stdout.decode(), TWO_BUDGETS_TEXT)
 
+    def test_an_owner_that_is_not_shown(self) -> None:
+        script = str(Path(__file__).resolve().parents[3] / "examples" / "05_inherit.task")
+        told = view(["text", script, "--threads", "high"], b"").stdout.decode()
+        self.assertIn("\nowners: 1 high, + a thread that is not shown\n", told)
+        self.assertRegex(told, r"\ndata +\+{8}1+\n")
+
     def test_who_ran_at_which_tick(self) -> None:
         rows = {line[:5].strip(): line[5:] for line in shown(CONTROLLER, "text").splitlines() if line[:1].isalpha()}
         letters = {30: "A", 20: "B", 10: "C"}

@@ -17,9 +17,11 @@ WRONG = [
     ("run s.task", "pse52 run 100 s.task"), ("run s.task 20", "pse52 run 20 s.task"), ("run 1000000000000000001", "10^18"),
     ("run 1 s.task s.task", "a word too many"), ("show", "pse52 show N SCRIPT"), ("show 1 2 3", "a word too many"), ("shov 7", "did you mean 'show'?"),
     ("detail", "pse52 detail N SCRIPT"), ("detail 1 2 3", "a word too many"), ("details 7", "did you mean 'detail'?"), ("rta 100000001", "100000000"), ("7", "a command comes before its numbers"),
-    ("s.task", "pse52 run 100 s.task"), ("rum 7", "did you mean 'run'?"), ("frobnicate", "--help"), ("--frob", "no option"),
+    ("s.task", "pse52 run 100 s.task"), ("rum 7", "did you mean 'run'?"), ("SHOW 7", "did you mean 'show'?"), ("run 7 --frob", "no option and no file"), ("frobnicate", "--help"), ("--frob", "no option"),
     ("soak 7", "needs two numbers"), ("gen", "pse52 gen S"), ("gen x", "a number from 0 to 10^18"), ("check 7 s.task", "a script and a trace"),
-    ("upgrade 3", "takes no number"), ("audit 3", "takes no number"), ("explain s.task s.task", "one script")]
+    ("upgrade 3", "takes no number"), ("audit 3", "takes no number"),
+    ("upgrade s.task s.task", "a word too many"), ("audit s.task", "a head and a trace"), ("audit s.task s.task s.task", "a word too many"),
+    ("explain s.task s.task", "one script")]
 
 
 class Words(unittest.TestCase):
@@ -68,7 +70,7 @@ class Words(unittest.TestCase):
         self.assertEqual(self.checkout.run("upgrade", "s.task").out, "release: upgrade\n" + SCRIPT)
         self.assertEqual(self.checkout.run("check", "7", "s.task", "t.trace").out, f"release: check 7\n{SCRIPT}%%\ntrace\n")
         self.assertEqual(self.checkout.run("audit", "s.task", "t.trace").out, f"release: audit\n{SCRIPT}%%\ntrace\n")
-        for words, part in (("run 7 none.task", "no file"), ("run 7 bin", "folder"), ("check 7 s.task none", "no file")):
+        for words, part in (("run 7 none.task", "no file"), ("upgrade none", "no file"), ("run 7 bin", "folder"), ("check 7 s.task none", "no file")):
             ended = self.checkout.run(*words.split())
             self.assertEqual((ended.status, ended.out), (4, ""), words)
             self.assertIn(part, ended.err)
@@ -82,6 +84,15 @@ class Words(unittest.TestCase):
         self.assertEqual((ended.status, ended.out), (7, "differs 2\nwant x\nhave text\n"))
         self.assertIn("line 2 of t.trace: two\n", ended.err)
         self.assertEqual(self.checkout.run("check", "7", "s.task", "t.trace").err, "")
+
+    def test_a_line_that_breaks_a_rule_is_shown(self) -> None:
+        self.checkout.put_built()
+        self.checkout.write("crates/pse52/out/pse52", "#!/bin/sh\nprintf 'breach 2 4\\n'\nexit 9\n")
+        subprocess.run(["sh", str(self.checkout.top / "tools/wrapper/record.sh"), self.checkout.sum("sources")], check=True)
+        self.checkout.write("t.trace", "one\ntwo\n")
+        ended = self.checkout.run("audit", "s.task", "t.trace", "--explain")
+        self.assertEqual((ended.status, ended.out), (9, "breach 2 4\n"))
+        self.assertIn("line 2 of t.trace: two\n", ended.err)
 
     def test_which(self) -> None:
         self.checkout.put_built()
