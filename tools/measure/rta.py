@@ -44,7 +44,8 @@ class Analysed:
         """What follows for the deadline. Beyond the period only the first job is proved of, and a later one may take longer."""
         late = self.seen.late(self.deadline) if self.seen and self.deadline is not None else 0
         longest = max(self.seen.responses, default=0) if self.seen else 0
-        if self.why is None and self.proved is not None and longest > self.proved:
+        within = self.why is None and self.proved is not None and self.proved <= (self.task.period or GREATEST_PERIOD)
+        if within and longest > self.proved:
             return "longer than proved"
         if late:
             return "late"
@@ -52,9 +53,7 @@ class Analysed:
             return "not analysed"
         if self.deadline is None:
             return "runs once"
-        if self.proved is None or self.proved > self.deadline or self.proved > (self.task.period or GREATEST_PERIOD):
-            return "may be late"
-        return "in time"
+        return "in time" if within and self.proved <= self.deadline else "may be late"
 
 
 def shared(script: Script, tasks: list[Task]) -> dict[int, list[Task]]:

@@ -75,6 +75,7 @@ def data_of(timeline: Timeline) -> dict[str, object]:
                     for mutex in timeline.mutexes],
         "wakes": [[number[wake.time], order[wake.waker], order[wake.woken], wake.by] for wake in timeline.wakes],
         "facts": _facts(timeline, points),
+        "killed": timeline.killed.signal if timeline.killed is not None and timeline.killed.time <= timeline.end else "",
         "lines": [line for _, line in events], "at": [number[time] for time, _ in events]}
 
 

@@ -112,6 +112,7 @@ def _told(out: Writer, flow: _Flow, timeline: Timeline, axis: Axis) -> None:
             out.rect(at, flow.y - 9, 20, 10, fill=fill, stroke="#b08d4c", stroke_width="0.6")
             out.text(at + 24, flow.y, text, size=10.5, fill=INK)
     if any(is_dense(thread, axis) for thread in timeline.threads):
-        _item(out, flow, "heights: how much of each small column a thread runs (in its colour), is ready (pale), waits (grey)", FAINT)
+        _item(out, flow, "heights: how much of each small column a thread runs (in its colour), is ready (pale), waits (grey)"
+              + (", or a mutex is owned" if timeline.mutexes else ""), FAINT)
     if timeline.wakes:
         _item(out, flow, "who wakes whom is not drawn, since it is too much" if too_many(timeline.wakes, axis) else "grey arrow: who wakes whom", FAINT)

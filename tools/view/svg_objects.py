@@ -2,8 +2,9 @@
 from __future__ import annotations
 
 from .axis import Axis
+from .svg_spans import bins_of, is_dense
 from .svg_writer import FAINT, INK, Writer, short
-from .timeline import Owned, Timeline, Wake
+from .timeline import Owned, Span, State, ThreadLine, Timeline, Wake
 
 HEIGHT, BAR, LIST = 22.0, 13.0, 17.0
 OWNER, CONTENDED = "#e8d9b5", "#eab676"
@@ -15,6 +16,10 @@ def draw_mutex(out: Writer, mutex: Owned, axis: Axis, y: float) -> None:
     """A bar for each owner, darker where others wait for it."""
     out.text(8, y + BAR - 2, mutex.name, size=10, fill=FAINT, title=f"the mutex {mutex.name}")
     out.line(8, y + HEIGHT - 3, axis.right, y + HEIGHT - 3, stroke="#eceef2", stroke_width="1")
+    line = ThreadLine(mutex.name, [Span(start, end, State.RUNNING, min(waiting, 1)) for start, end, _, waiting in mutex.bars])
+    if is_dense(line, axis):
+        _draw_shares(out, line, axis, y)
+        return
     last = -9.0
     for start, end, owner, waiting in mutex.bars:
         left, right = axis.at(start), axis.at(end)
@@ -26,6 +31,18 @@ def draw_mutex(out: Writer, mutex: Owned, axis: Axis, y: float) -> None:
         out.rect(left, y, right - left, BAR, title=title, fill=CONTENDED if waiting else OWNER, stroke="#b08d4c", stroke_width="0.6", class_="owner")
         if right - left >= len(owner) * 5.4 + 4:
             out.text((left + right) / 2, y + BAR - 3, owner, size=8.8, anchor="middle", fill=INK)
+
+
+def _draw_shares(out: Writer, line: ThreadLine, axis: Axis, y: float) -> None:
+    """How much of each column a mutex is owned, from below: first where others wait for it."""
+    for column in bins_of(line, axis):
+        wide, ticks, base = column.right - column.left, column.end - column.start, y + BAR
+        title = f"{line.name}, ticks {column.start} to {column.end}: owned for {sum(column.runs.values())}, others wait for it for {column.runs.get(1, 0)}"
+        for waits, fill in ((1, CONTENDED), (0, OWNER)):
+            high = BAR * column.runs.get(waits, 0) / ticks
+            if high > 0:
+                base -= high
+                out.rect(column.left, base, wide, high, title=title, fill=fill, class_="owner-dense")
 
 
 def too_many(wakes: list[Wake], axis: Axis) -> bool:

@@ -8,6 +8,8 @@ from .svg_writer import FAINT, Writer, short
 from .timeline import Capacity, MarkKind, Planned, ThreadLine
 
 LEAST_STEP = 2.5
+# A lane that is lower has no room for both ends of its scale.
+LEAST_SCALE = 14
 # How far apart plans stand at least for each to be drawn with its amount, and else those that are drawn.
 LEAST_APART, FAR_APART = 8, 24
 
@@ -16,7 +18,8 @@ def draw_server(out: Writer, thread: ThreadLine, axis: Axis, top: float, high: f
     greatest = max((piece.value for piece in thread.capacity), default=1) or 1
     base = top + high
     out.text(axis.left - 5, top + 6, short_number(greatest), size=8, anchor="end", fill=FAINT)
-    out.text(axis.left - 5, base + 2, "0", size=8, anchor="end", fill=FAINT)
+    if high >= LEAST_SCALE:
+        out.text(axis.left - 5, base + 2, "0", size=8, anchor="end", fill=FAINT)
     out.line(axis.left, base, axis.right, base, stroke="#d5d9e0", stroke_width="0.8")
     data = _step_line(thread.capacity, axis, base, high / greatest)
     if data:

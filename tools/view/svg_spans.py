@@ -86,7 +86,7 @@ class _Bin:
 def _draw_density(out: Writer, thread: ThreadLine, axis: Axis, colours: Colours, bar: float, high: float) -> None:
     """How much of each column the thread ran, from below, in the colour at which it mostly did; above that where it was ready, and waited."""
     ready, waits = [], []
-    for column in _bins(thread, axis):
+    for column in bins_of(thread, axis):
         ticks, ran = column.end - column.start, sum(column.runs.values())
         wide, base = column.right - column.left, bar + high * (1 - ran / ticks)
         if ran:
@@ -103,7 +103,7 @@ def _draw_density(out: Writer, thread: ThreadLine, axis: Axis, colours: Colours,
             out.path("".join(boxes), fill=fill, class_=name)
 
 
-def _bins(thread: ThreadLine, axis: Axis) -> list[_Bin]:
+def bins_of(thread: ThreadLine, axis: Axis) -> list[_Bin]:
     bins: list[_Bin] = []
     for segment in axis.segments:
         count = max(1, min(segment.ticks, int((segment.right - segment.left) / BIN)))

@@ -18,6 +18,14 @@ export function addressOf({ example, script, horizon, cursor, beside }) {
 }
 
 let clock = 0;
+// What stands in the page now becomes the page before this one, to which the browser's way back leads. The new one has another
+// address at once, since a browser tells of the way only where the addresses differ.
+export function leaveInAddress(said) {
+  clearTimeout(clock);
+  const hash = addressOf(said());
+  if (hash.length > LONGEST) return;
+  history.replaceState(null, "", hash); history.pushState(null, "", "#");
+}
 export function toAddress(said) {
   clearTimeout(clock);
   clock = setTimeout(() => {

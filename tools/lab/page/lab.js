@@ -1,5 +1,5 @@
 // The page to work in: puts the editor, the runs, the pictures and what is around them together.
-import { addressOf, fromAddress, toAddress } from "./address.js";
+import { addressOf, fromAddress, leaveInAddress, toAddress } from "./address.js";
 import { runsDiffer, scriptsDiffer } from "./differences.js";
 import { editorOf } from "./editor.js";
 import { showFaults } from "./faults.js";
@@ -15,7 +15,7 @@ let example = null, kept = null, keptRan = null, cursor = 0n, ran = null, differ
 
 const script = () => editor.text();
 const horizon = () => element("horizon").value.trim();
-const title = () => example ? example.name : "script";
+const title = () => lesson() ? example.name : "script";
 const say = (text) => { element("state").textContent = text; };
 
 // ---- runs
@@ -103,23 +103,31 @@ function fillGallery() {
   const own = new Option("your own script", "");
   element("gallery").replaceChildren(own, ...about.gallery.map((one) => new Option(one.name.replaceAll("_", " "), one.name)));
 }
+// The example, as long as a thread of it is in the script.
+const threadsOf = (text) => [...text.matchAll(/^\s*thread (\S+)/gm)].map((found) => found[1]);
+function lesson() {
+  const names = example ? threadsOf(example.script) : [];
+  return threadsOf(script()).some((name) => names.includes(name)) ? example : null;
+}
+// Another script takes the place of this one: one that somebody wrote stays behind in the browser's way back.
+function leave() { if (script().trim() && !(example && example.script === script())) leaveInAddress(now); }
 function begin(name) {
   const found = about.gallery.find((one) => one.name === name);
   if (found) start({ text: found.script, of: found, ticks: String(found.horizon) });
 }
 function start({ text, of = null, ticks = "", at = 0n, beside = null }) {
   example = of; cursor = at;
-  element("gallery").value = of ? of.name : "";
   element("horizon").value = ticks || (HORIZON.exec(text) || [])[1] || horizon();
   quiet = true; editor.write(text); quiet = false;
   element("slider").hidden = true; element("sweep").setAttribute("aria-pressed", "false");
   runNow(); tellChanges(); keep(beside);
 }
 function tellChanges() {
-  element("lesson").classList.toggle("none", !example);
-  element("sentence").textContent = example ? example.look : "";
-  const text = script();
-  element("changes").replaceChildren(...(example ? example.changes : []).map((change) => {
+  const text = script(), of = lesson();
+  element("gallery").value = of ? of.name : "";
+  element("lesson").classList.toggle("none", !of);
+  element("sentence").textContent = of ? of.look : "";
+  element("changes").replaceChildren(...(of ? of.changes : []).map((change) => {
     const button = Object.assign(document.createElement("button"), { disabled: !text.includes(change.find) });
     // What stands between backquotes is of the script.
     button.append(...change.say.split("`").map((part, number) => number % 2 ? Object.assign(document.createElement("code"), { textContent: part }) : part));
@@ -187,21 +195,24 @@ function moved(side, tick) {
 }
 window.addEventListener("keydown", (key) => {
   pressedAt = key.timeStamp;
-  const typing = ["INPUT", "TEXTAREA", "SELECT"].includes(key.target.tagName) || key.target.isContentEditable;
-  if ((typing && !key.ctrlKey) || key.altKey || key.metaKey) return;
+  const at = key.target, slides = at.type === "range", inField = ["INPUT", "TEXTAREA", "SELECT"].includes(at.tagName) || at.isContentEditable;
+  if (!pictures || key.altKey || key.metaKey || (slides && /^(Arrow|Page|Home|End)/.test(key.key))) return;
+  // From the script it is the editor that leaves.
+  if (inField && key.key === "Escape" && !element("editor").contains(at)) { pictures.a.focus(); key.preventDefault(); return; }
+  if (inField && !slides && !key.ctrlKey) return;
   const onButton = key.target.tagName === "BUTTON" && (key.key === "Enter" || key.key === " ");
   if (!onButton && (pressed(key.key, key.ctrlKey) || (!key.ctrlKey && pictures.a.press(key.key)))) key.preventDefault();
 }, true);
 
 function wire() {
-  element("gallery").onchange = () => { if (element("gallery").value) begin(element("gallery").value); else start({ text: script() }); };
+  element("gallery").onchange = () => { if (element("gallery").value) { leave(); begin(element("gallery").value); } else start({ text: script() }); };
   element("horizon").oninput = () => { runNow(); if (kept !== null) runs.b.run(kept, horizon(), title(), 0); remember(); };
   element("beside").onclick = KEYS.c; element("sweep").onclick = toggleSweep; element("next").onclick = nextDifference;
-  element("back").onclick = () => { const text = kept; keep(null); editor.write(text); };
+  element("back").onclick = () => { const text = kept; leave(); keep(null); editor.write(text); };
   element("least").oninput = element("most").oninput = sweep.bounds;
   element("value").oninput = () => { pressedAt = performance.now(); sweep.slide(editor); };
   element("open").onclick = WITH_CONTROL.o; element("save").onclick = save;
-  element("file").onchange = async () => { const file = element("file").files[0]; if (file) start({ text: await opened(file) }); element("file").value = ""; };
+  element("file").onchange = async () => { const file = element("file").files[0]; if (file) { const text = await opened(file); leave(); start({ text }); } element("file").value = ""; };
   element("export").onchange = async () => { const form = element("export").value; element("export").value = ""; if (form) say(await exported(form, script(), horizon(), title())); };
   element("link").onclick = async () => {
     const link = location.href.split("#")[0] + addressOf(now());
@@ -223,7 +234,7 @@ async function begun() {
   about = await (await fetch("about.json")).json();
   editor = await editorOf(about, changed, () => pictures.a.focus());
   pictures = { a: await pictureOf("a"), b: await pictureOf("b") };
-  runs = { a: new Runs("a", shownA), b: new Runs("b", shownB) };
+  runs = { a: new Runs("a", shownA, () => { document.body.classList.add("stale"); say("The run is still being made."); }), b: new Runs("b", shownB) };
   fillGallery(); wire();
   setDark(window.matchMedia("(prefers-color-scheme: dark)").matches);
   readAddress();

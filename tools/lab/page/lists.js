@@ -48,8 +48,8 @@ function budgetRows(at) {
     const pending = saidAt("pending", thread.name, at.point).split(" ").filter(Boolean), plans = [];
     for (let n = 0; n < pending.length; n += 2) plans.push(pending[n] + " at " + pending[n + 1]);
     const capacity = capacityOf(thread, at);
-    return [thread.name, "capacity " + (capacity === null ? "not told" : capacity) + (plans.length ? ", comes back: " + plans.join(", ") : "")];
-  });
+    return [thread.name, [capacity === null ? "" : "capacity " + capacity, plans.length ? "comes back: " + plans.join(", ") : ""].filter(Boolean).join(", ")];
+  }).filter(([, said]) => said);
 }
 function restRows(point) {
   const queues = factsOf("waiters").filter(([name]) => !data.facts["mutex " + name]).map(([name, changes]) => ["waiting for " + name, factAt(changes, point)]);
@@ -60,7 +60,7 @@ function showLists(at) {
   const parts = over ? [] : [["Ready lists, by priority, head first", readyRows(at.point)], ["Who waits for whom", waitingRows(at.point)],
     ["Owners of mutexes", ownerRows(at.point)], ["Budgets", budgetRows(at)], ["Semaphores, queues, timers, signals", restRows(at.point)]];
   const told = parts.flatMap(([title, rows]) => section(title, rows));
-  element("cursor").replaceChildren(...told.length ? told : [Object.assign(document.createElement("h2"), { textContent: over ? "The run is over." : "No list has anyone." })]);
+  element("cursor").replaceChildren(...told.length ? told : [Object.assign(document.createElement("h2"), { textContent: !over ? "No list has anyone." : data.killed ? "The process is killed by " + data.killed + "." : "The run is over." })]);
 }
 hearers.push(showLists);
 tellsFacts = false;

@@ -1,6 +1,6 @@
 // One picture of the page to work in. The page around it gives it data, a cursor and what differs, and hears of its keys and its cursor.
 const EMPTY = { ticks: ["0", "1"], places: [0, 1], cuts: [], detail: true, threads: [], colours: {}, shown: {}, kinds: {}, words: {},
-  frames: [], mutexes: [], wakes: [], facts: {}, lines: [], at: [] };
+  frames: [], mutexes: [], wakes: [], facts: {}, killed: "", lines: [], at: [] };
 const side = window.frameElement ? window.frameElement.id : "a";
 let differing = {}, fits = true;
 

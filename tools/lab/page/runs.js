@@ -1,5 +1,5 @@
 // Asks the server for runs. Of one pane the newest script counts: one request is under way, and what was typed meanwhile follows it.
-const PATIENCE = 400;
+const PATIENCE = 400, LONG = 700;
 
 export async function ask(pane, form, script, horizon, title) {
   const query = new URLSearchParams({ pane, form, horizon, title });
@@ -9,7 +9,8 @@ export async function ask(pane, form, script, horizon, title) {
 }
 
 export class Runs {
-  constructor(pane, show) { this.pane = pane; this.show = show; this.number = 0; this.since = 0; this.waiting = null; }
+  // `linger` is called where an answer does not come soon.
+  constructor(pane, show, linger = () => {}) { this.pane = pane; this.show = show; this.linger = linger; this.number = 0; this.since = 0; this.waiting = null; }
 
   // Runs a script; `since` is when the key was pressed that asked for it.
   run(script, horizon, title, since) {
@@ -22,9 +23,11 @@ export class Runs {
     clearTimeout(this.clock);
     const wanted = this.waiting, number = ++this.number;
     this.waiting = null; this.since = performance.now();
+    const clock = setTimeout(this.linger, LONG);
     let told;
     try { told = await ask(this.pane, "picture", wanted.script, wanted.horizon, wanted.title); }
     catch { told = { why: "the server does not answer: start bin/pse52-lab again, and give it this link" }; }
+    clearTimeout(clock);
     if (number !== this.number) return;
     this.since = 0;
     // What was typed meanwhile is asked for before this answer is drawn.

@@ -182,6 +182,37 @@ class Page(InBrowser):
         self.assertIn("18 dispatch low 2", self.in_frame("data.lines", "a"))
         self.shot("slider")
 
+    def test_keys_in_the_fields(self) -> None:
+        """Escape leads from each field to the picture, and the keys of the page go on where the slider has the focus."""
+        from selenium.webdriver.common.keys import Keys
+
+        self.open("#example=04_inversion")
+        self.press(Keys.ESCAPE)
+        for key, field in (("h", "horizon"), ("g", "gallery"), ("s", "value")):
+            self.press(key)
+            self.assertEqual(self.does("return document.activeElement.id"), field)
+            self.press(Keys.ESCAPE)
+            self.assertEqual(self.does("return document.activeElement.id"), "a")
+        self.does("document.getElementById('value').focus()")
+        self.press("s")
+        self.assertTrue(self.does("return document.getElementById('slider').hidden"))
+
+    def test_a_script_of_ones_own(self) -> None:
+        """No lesson stands above it, and what takes its place can be taken back by the browser's way back."""
+        from selenium.webdriver.support.ui import Select
+
+        self.open("#example=04_inversion")
+        mine = "thread mine fifo 5 at 0\nrun 3\nend\n"
+        self.write_at_once(mine)
+        self.until("return lab.drawn", mine)
+        self.assertEqual(self.does("return [document.getElementById('gallery').value, document.getElementById('lesson').className]"), ["", "none"])
+        # A browser skips what no hand has left, so the menu is clicked.
+        Select(self.driver.find_element("id", "gallery")).select_by_value("05_inherit")
+        self.until("return lab.drawn", INHERIT)
+        self.driver.back()
+        self.until("return lab.drawn", mine)
+        self.assertEqual(self.script(), mine)
+
     def test_two_runs(self) -> None:
         self.open("#example=04_inversion")
         self.does("[...document.querySelectorAll('#changes button')].find((button) => button.textContent === 'make it inherit').click()")

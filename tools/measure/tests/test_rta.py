@@ -80,6 +80,14 @@ class ResponseTimes(unittest.TestCase):
         rows = whole(thread("hog", 50, "run 10", 20) + thread("lo", 10, "run 10\ngettime", 20), 400).rows
         self.assertEqual([(row.proved, row.verdict) for row in rows], [(12, "in time"), (None, "late")])
 
+    def test_a_first_job_beyond_its_period(self) -> None:
+        """11 ticks each 10: the later jobs wait for the earlier ones, which nothing that is proved denies."""
+        row, = whole(thread("lo", 10, "run 9", 10), 100).rows
+        self.assertGreater(max(row.seen.responses), row.proved)
+        self.assertEqual((row.proved, row.verdict), (11, "late"))
+        row.deadline = 40
+        self.assertEqual(row.verdict, "may be late")
+
     def test_the_first_jobs_take_what_is_proved(self) -> None:
         """Where all are released at once and nobody blocks, the job behind the first has the jump too: it takes no more than is proved."""
         exact = 0

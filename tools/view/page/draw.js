@@ -48,6 +48,14 @@ function line(colour, wide, x, y, toX, toY, dashes = []) {
 function write(text, x, y, size, colour, align = "left", weight = "") {
   pen.font = weight + " " + size + "px " + FONT; pen.fillStyle = colour; pen.textAlign = align; pen.fillText(text, x, y);
 }
+// A name that is as wide as its column at most, or else its beginning and its end.
+function fitted(name, size, weight = "") {
+  pen.font = weight + " " + size + "px " + FONT;
+  let kept = name.length;
+  const cut = () => kept === name.length ? name : name.slice(0, Math.ceil(kept / 2)) + "…" + name.slice(name.length - Math.floor(kept / 2));
+  while (kept > 2 && pen.measureText(cut()).width > gutter - 14) kept--;
+  return cut();
+}
 function draw() {
   const dots = window.devicePixelRatio || 1;
   width = canvas.clientWidth; height = canvas.clientHeight;
@@ -71,7 +79,11 @@ function draw() {
   drawWakes(bars);
   pen.restore();
   for (const paint of overlays) paint(bars);
-  drawCuts(); drawAxis(); drawCursors();
+  drawCuts(); drawAxis(); drawKill(); drawCursors();
+}
+function drawKill() {
+  const x = xOf(total);
+  if (data.killed && x >= gutter && x <= width) line(SHAPES.late[0], 2, x, AXIS - 6, x, Math.min(height, AXIS + whole() - scroll));
 }
 function drawCursorBand() {
   const at = tickAt(place), x = xOf(at.start);
@@ -134,19 +146,21 @@ function drawRow(thread, number, y, bar) {
   if (thread.server) drawServer(thread, bar + sizes.bar + 6, sizes.server - 18);
   drawMarks(thread, bar);
   pen.restore();
-  write(thread.name, 8, bar + sizes.bar * 0.75, Math.min(12, sizes.bar), look.ink, "left", "bold");
+  write(fitted(thread.name, Math.min(12, sizes.bar), "bold"), 8, bar + sizes.bar * 0.75, Math.min(12, sizes.bar), look.ink, "left", "bold");
   if (thread.server) {
     write(greatest[number], gutter - 7, bar + sizes.bar + 12, 8, look.faint, "right");
-    write("0", gutter - 7, bar + sizes.bar + sizes.server - 9, 8, look.faint, "right");
+    // A low lane has no room for both ends of its scale.
+    if (sizes.server > 30) write("0", gutter - 7, bar + sizes.bar + sizes.server - 9, 8, look.faint, "right");
   }
   line(look.pale, 1, 0, y + ROW(number) - 1, width, y + ROW(number) - 1);
 }
-const firstFrom = (list) => list.length ? lastAtMost(list.length, (i) => places[list[i][0]], left) : 0;
-// Whether most stretches in sight are too narrow to be told apart.
-function isDense(thread) {
-  const from = firstFrom(thread.spans), to = lastAtMost(thread.spans.length, (i) => places[thread.spans[i][0]], placeOf(width));
+// Whether most stretches in sight are too narrow to be told apart. The point where one begins stands first in it.
+function isCrowded(list) {
+  const from = firstFrom(list), to = lastAtMost(list.length, (i) => places[list[i][0]], placeOf(width));
   return to - from > (width - gutter) / 4;
 }
+const firstFrom = (list) => list.length ? lastAtMost(list.length, (i) => places[list[i][0]], left) : 0;
+const isDense = (thread) => isCrowded(thread.spans);
 function label(texts, x, end, y, size, colour) {
   const start = Math.max(x, gutter), stop = Math.min(end, width);
   const text = texts.find((said) => said && stop - start > said.length * size * 0.62 + 4);
@@ -177,25 +191,47 @@ function drawSpans(thread, bar) {
     if (frame) { pen.fillStyle = data.frames[cleanup]; pen.fillRect(x, bar, wide, 3.6); }
   }
 }
-// How much of each small column the thread ran, from below; above that where it was ready, and where it waited.
-function drawDensity(thread, bar) {
-  let i = firstFrom(thread.spans);
+// For each small column what of it each stretch has, and then what stands there.
+function inColumns(list, add, done) {
+  let i = firstFrom(list);
   for (let x = gutter; x < width; x += BIN) {
-    const from = placeOf(x), to = placeOf(x + BIN), shares = [0, 0, 0, 0];
-    let most = 0, mostly = 0;
-    i = Math.min(i, thread.spans.length - 1);
-    while (i > 0 && places[thread.spans[i][0]] > from) i--;
-    for (; i < thread.spans.length && places[thread.spans[i][0]] < to; i++) {
-      const [start, end, state, priority] = thread.spans[i], part = Math.min(places[end], to) - Math.max(places[start], from);
-      if (part > 0) { shares[state] += part; if (state === RUNNING && part > most) { most = part; mostly = priority; } }
+    const from = placeOf(x), to = placeOf(x + BIN);
+    i = Math.min(i, list.length - 1);
+    while (i > 0 && places[list[i][0]] > from) i--;
+    for (; i < list.length && places[list[i][0]] < to; i++) {
+      const [start, end] = list[i], part = Math.min(places[end], to) - Math.max(places[start], from);
+      if (part > 0) add(list[i], part / (to - from));
       if (places[end] >= to) break;
     }
+    done(x);
+  }
+}
+// How much of each small column the thread ran, from below; above that where it was ready, and where it waited.
+function drawDensity(thread, bar) {
+  let shares = [0, 0, 0, 0], most = 0, mostly = 0;
+  inColumns(thread.spans, ([, , state, priority], part) => {
+    shares[state] += part;
+    if (state === RUNNING && part > most) { most = part; mostly = priority; }
+  }, (x) => {
     let base = bar + sizes.bar;
     for (const [state, colour] of [[RUNNING, most ? data.colours[mostly][0] : ""], [READY, look["dense-ready"]], [WAITING, look["dense-wait"]]]) {
-      const high = sizes.bar * shares[state] / (to - from);
+      const high = sizes.bar * shares[state];
       if (high > 0) { base -= high; pen.fillStyle = colour; pen.fillRect(x, base, BIN, high); }
     }
-  }
+    shares = [0, 0, 0, 0]; most = 0;
+  });
+}
+// How much of each small column a mutex is owned, from below: first where others wait for it.
+function drawOwnedShares(mutex, y) {
+  let shares = [0, 0];
+  inColumns(mutex.bars, ([, , , waiting], part) => { shares[waiting ? 1 : 0] += part; }, (x) => {
+    let base = y + sizes.object - 6;
+    for (const [share, colour] of [[shares[1], look.contended], [shares[0], look.owner]]) {
+      const high = (sizes.object - 6) * share;
+      base -= high; pen.fillStyle = colour; pen.fillRect(x, base, BIN, high);
+    }
+    shares = [0, 0];
+  });
 }
 // Marks of one instant stand on one another, at their tick.
 function drawMarks(thread, bar) {
@@ -224,13 +260,16 @@ function drawServer(thread, top, high) {
   const base = top + high, unit = high / greatest[data.threads.indexOf(thread)];
   line(look.line, 0.8, gutter, base, width, base);
   const steps = new Path2D();
-  let drawn = -9, first = null, end = 0;
+  let drawn = -9, first = null, end = 0, most = -1, least = -1;
   for (let i = firstFrom(thread.capacity); i < thread.capacity.length; i++) {
     const [from, to, text, falls] = thread.capacity[i], x = xOf(places[from]), value = Number(text);
     if (x > width) break;
-    if (xOf(places[to]) - drawn < 0.6) continue;
+    const gone = falls ? Number(ticks[to] - ticks[from]) : 0;
+    // Of pieces that are too narrow the greatest and the least capacity are drawn.
+    if (xOf(places[to]) - drawn < 0.6) { least = most < 0 ? value - gone : Math.min(least, value - gone); most = Math.max(most, value); continue; }
+    if (most >= 0) { steps.lineTo(drawn, base - most * unit); steps.lineTo(drawn, base - Math.max(0, least) * unit); most = -1; }
     drawn = end = xOf(places[to]);
-    const gone = falls ? Number(ticks[to] - ticks[from]) : 0, stepped = falls && gone <= 300 && (end - x) / gone >= 3;
+    const stepped = falls && gone <= 300 && (end - x) / gone >= 3;
     const at = (n) => base - Math.max(0, value - n) * unit;
     if (first === null) { first = x; steps.moveTo(x, at(0)); } else steps.lineTo(x, at(0));
     for (let n = 1; stepped && n <= gone; n++) { steps.lineTo(x + (end - x) * n / gone, at(n - 1)); steps.lineTo(x + (end - x) * n / gone, at(n)); }
@@ -273,7 +312,8 @@ function ring(x, y, fill) {
   pen.beginPath(); pen.arc(x, y, 3, 0, 7); pen.fillStyle = fill; pen.fill(); pen.strokeStyle = look.blue; pen.lineWidth = 1; pen.stroke();
 }
 function drawOwners(mutex, y) {
-  write(mutex.name, 8, y + sizes.object - 8, 10, look.faint);
+  write(fitted(mutex.name, 10), 8, y + sizes.object - 8, 10, look.faint);
+  if (isCrowded(mutex.bars)) { drawOwnedShares(mutex, y); return; }
   for (let i = firstFrom(mutex.bars); i < mutex.bars.length; i++) {
     const [from, to, owner, waiting] = mutex.bars[i], x = Math.max(gutter, xOf(places[from])), end = xOf(places[to]);
     if (x > width) break;

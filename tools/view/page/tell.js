@@ -6,7 +6,7 @@ let wanted = "", tellsFacts = true;
 function tell() {
   const at = tickAt(place), over = at.point >= last;
   element("tick").textContent = at.tick.toString();
-  let who = over ? "the run is over" : "idle";
+  let who = over ? data.killed ? "the process is killed by " + data.killed : "the run is over" : "idle";
   const threads = data.threads.map((thread) => {
     const span = spanOf(thread, at.point);
     const text = span !== null ? inWords(span) : thread.ended !== null && at.point >= thread.ended ? "has ended" : over ? "" : "has not started";
@@ -36,7 +36,11 @@ function events(at) {
   const count = numbers ? numbers.length : data.lines.length, numberOf = (place) => numbers ? numbers[place] : place;
   element("found").textContent = wanted ? count + " of " + data.lines.length + " events" : "Events";
   if (!count) return [];
-  const next = lastAtMost(count, (i) => data.at[numberOf(i)], at.point), first = Math.max(0, next - 14);
+  const next = lastAtMost(count, (i) => data.at[numberOf(i)], at.point), tickOf = (place) => ticks[data.at[numberOf(place)]];
+  let first = next;
+  while (first > 0 && tickOf(first - 1) === tickOf(next)) first--;
+  // Those of the cursor's tick stand near the top, where a low list shows them too.
+  first = Math.max(0, first - 3);
   return Array.from({ length: Math.min(count, next + 40) - first }, (_, n) => numberOf(first + n)).map((number) => {
     const now = ticks[data.at[number]] === at.tick;
     return { text: data.lines[number], kind: now ? "now" : data.at[number] <= at.point ? "past" : "", go: data.at[number] };
@@ -79,6 +83,9 @@ function legend() {
   if (data.threads.some((thread) => thread.server)) items.push(
     [box('<path d="M0,2H9V6H14V10H20" fill="none" stroke="var(--blue)" stroke-width="1.5"/>'), "capacity"], [box('<circle cx="10" cy="5.5" r="3.5" fill="none" stroke="var(--blue)"/>'), "plan"],
     [box('<circle cx="10" cy="5.5" r="3.5" fill="var(--blue)"/>'), "refill, with its amount"]);
+  if (last >= LONG) items.push([box('<rect y="7" width="20" height="4" fill="#4575b4"/><rect y="4" width="20" height="3" fill="var(--dense-ready)"/><rect width="20" height="4" fill="var(--dense-wait)"/>'),
+    "where all stands close: for how much of it a thread runs, is ready, waits"]);
+  if (data.killed) items.push([box(`<path d="M10,0V11" stroke="${SHAPES.late[0]}" stroke-width="2"/>`), "killed by " + data.killed]);
   if (data.cuts.length) items.push([box('<rect width="20" height="11" fill="#b4a88c" opacity="0.5"/>'), "nothing happens there, and the axis is cut"]);
   element("legend").innerHTML = items.map(([icon, text]) => "<span>" + icon + text + "</span>").join("");
 }

@@ -74,6 +74,22 @@ class Page(unittest.TestCase):
         self.assertEqual(self.does('key("ArrowRight")')[:2], "39")
         self.assertEqual([self.does(f'key("{name}")')[:2] for name in ("ArrowLeft", "ArrowLeft", "n", "p")], ["38", "37", "40", "36"])
 
+    def test_the_events_of_the_cursor_stand_near_the_top(self) -> None:
+        self.open(drawer("html")(timeline(CONTROLLER)))
+        self.does("over(24)")
+        lines = self.does('lines("#list")')
+        self.assertTrue(lines[3].startswith("24 "), lines[:6])
+        self.assertFalse(lines[2].startswith("24 "), lines[:6])
+
+    def test_a_long_name_keeps_to_its_column(self) -> None:
+        name = "thread_with_the_longest_name_abc"
+        self.open(drawer("html")(timeline_of(read_trace(detail_of(f"thread {name} fifo 5 at 0\nrun 3\nend\n".encode(), 9).splitlines(keepends=True)))))
+        shown, wide = self.does(f'(() => {{ const said = fitted("{name}", 12, "bold"); return [said, 8 + pen.measureText(said).width - gutter]; }})()')
+        self.assertRegex(shown, "^thread_.*….*_abc$")
+        self.assertLess(wide, 0)
+        self.assertEqual(self.does('fitted("short", 12, "bold")'), "short")
+        self.assertTrue(self.does("document.querySelector('aside').scrollWidth <= document.querySelector('aside').clientWidth"))
+
     def test_holding_and_the_second_cursor(self) -> None:
         self.open(drawer("html")(timeline(CONTROLLER)))
         self.assertEqual(self.does("click(24)")[:2], "24")
@@ -176,6 +192,22 @@ class Page(unittest.TestCase):
         self.shot("dense")
         self.does('(showAll(), zoom(200, gutter + 300))')
         self.assertFalse(self.does("isDense(data.threads[0])"))
+
+    def test_a_mutex_of_a_long_run(self) -> None:
+        """It is owned for 3 of 10 ticks, and so high is its row coloured."""
+        script = b"mutex m none\nthread a sporadic 5 4 50 8 4 at 0\nforever\nlock m\nrun 2\nunlock m\nnanosleep 5\nend\nend\n"
+        self.open(drawer("html")(timeline_of(read_trace(detail_of(script, 6000).splitlines(keepends=True)))))
+        self.assertTrue(self.does("isCrowded(data.mutexes[0].bars)"))
+        share = self.does("""(() => { const y = AXIS + 12 + ROW(0), high = sizes.object - 6, dots = pen.getImageData(gutter + 20, y, 600, high).data;
+            let count = 0; for (let i = 0; i < dots.length; i += 4) count += dots[i] - dots[i + 2] > 20; return count / (600 * high); })()""")
+        self.assertAlmostEqual(share, self.does("data.mutexes[0].bars.reduce((sum, [from, to]) => sum + places[to] - places[from], 0) / total"), delta=0.08)
+        self.assertIn("where all stands close: for how much of it a thread runs, is ready, waits", self.does("document.getElementById('legend').textContent"))
+
+    def test_a_process_that_is_killed(self) -> None:
+        script = b"timer dog rt1 0\nthread a fifo 5 at 0\ntimer_settime dog rel 4 0\nrun 30\nend\n"
+        self.open(drawer("html")(timeline_of(read_trace(detail_of(script, 20).splitlines(keepends=True)))))
+        self.assertEqual(self.does('key("End")').split(" ", 1)[1], "· the process is killed by rt1")
+        self.assertIn("killed by rt1", self.does("document.getElementById('legend').textContent"))
 
     def test_the_overview_of_a_long_run(self) -> None:
         self.detail(CONTROLLER)
