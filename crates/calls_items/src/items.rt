@@ -78,7 +78,7 @@ fn time_out<K: Sink>(p: &mut Parts, t: Tid, out: &mut Tracer<'_, K>)
 }
 
 // A due item, before its moves.
-#[inline(always)]
+#[inline(never)]
 fn handle<K: Sink>(p: &mut Parts, i: Item, out: &mut Tracer<'_, K>)
     requires known { IsKnown (length p.old.names) (length p.old.machine.timers) i }
     requires can { CanHandleNext p.old }
