@@ -5,7 +5,12 @@ _pse52() {
         case ${COMP_WORDS[at]} in -*) ;; *) command=${COMP_WORDS[at]}; break ;; esac
     done
     case $word in
-        -*) mapfile -t COMPREPLY < <(compgen -W '--explain --prove --released --which --version --help' -- "$word"); return ;;
+        -*)
+            local options='--explain --prove --released --which --version --help'
+            [ "$command" != explain ] || options=--lines
+            mapfile -t COMPREPLY < <(compgen -W "$options" -- "$word")
+            return
+            ;;
     esac
     case $command in
         '') mapfile -t COMPREPLY < <(compgen -W 'run show detail check audit rta upgrade gen soak explain' -- "$word") ;;

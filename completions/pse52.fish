@@ -11,6 +11,7 @@ complete -c pse52 -n __fish_use_subcommand -a gen -d 'write the script that is m
 complete -c pse52 -n __fish_use_subcommand -a soak -d 'run the script of a number, and write its closing lines'
 complete -c pse52 -n __fish_use_subcommand -a explain -d 'tell every fault of a script'
 complete -c pse52 -n '__fish_seen_subcommand_from run show detail check audit rta upgrade explain' -F
+complete -c pse52 -n '__fish_seen_subcommand_from explain' -l lines -d 'each fault in one line'
 complete -c pse52 -l explain -d 'show the faults of a script that is refused'
 complete -c pse52 -l prove -d 'prove and build the program'
 complete -c pse52 -l released -d 'run the program of the release'

@@ -206,6 +206,8 @@ def _number(place: str, text: str) -> tuple[str, str]:
         return wrong, f"write digits without a unit, as {unit[1]}: all times are in ticks"
     if re.fullmatch(r"[0-9]+[_,'][0-9_,']+|[0-9]+[eE][0-9]+", text):
         return wrong, "write all its digits, and nothing between them"
+    if re.fullmatch(r"\{\w+\}", text):
+        return wrong, "write a number in its place; bin/pse52-sweep fills it in by the values of its SWEEP.toml"
     return wrong, "digits stand here, or `reg`" if place == OPERAND else "digits stand here"
 
 

@@ -29,7 +29,7 @@ from audits import audit
 from forms import Stage
 from reader import read
 from script import canonical_text
-from simulate import Status, answer, command_of
+from simulate import Status, answer, command_of, staged
 
 TESTS = pathlib.Path(__file__).resolve().parents[2] / "tests"
 WORKED = TESTS / "worked"
@@ -150,6 +150,11 @@ def no_commands() -> list[list[str]]:
             ["show"], ["detail", "1", "2"], ["upgrade", "1"], ["show", "1000000000000000001"], ["detail", "-1"]]
 
 
+STAGES: tuple[tuple[str, Stage | None], ...] = (
+    ("run 5", Stage.WHOLE), ("run 5 --stage clock", Stage.CLOCK), ("--stage CLOCK run 5", Stage.CLOCK), ("run 5 --stage", None), ("run 5 --stage x", None))
+"""Words of a command with its stage; None where there is no such stage."""
+
+
 def generated_differ(count: int) -> int:
     """Runs generated scripts with all checks on; the number of those whose canonical text is not read as itself."""
     found = 0
@@ -199,6 +204,8 @@ def main() -> int:
     for words in no_commands():
         compared += 1
         wrong += [f"{words} is taken for a command"] if command_of(words) is not None else []
+    compared += len(STAGES)
+    wrong += [f"{words}: another stage" for words, stage in STAGES if staged(words.split())[1] is not stage]
     compared += FACTS_OF + FACTS_OF // 2 + len(list(WORKED.glob("*.audit"))) + len(LINES_OF_THE_CLOCK) + UNSET_OF
     refused, faults = faults_wrong()
     answered, others = answers.differences()

@@ -70,13 +70,21 @@ def answer(text: bytes, horizon: int, stage: Stage = Stage.WHOLE, checked: bool 
     return Status.DONE, told
 
 
+def staged(words: list[str]) -> tuple[list[str], Stage | None]:
+    """The words without `--stage` and its value, and the stage; None where the value is missing or no stage."""
+    if "--stage" not in words:
+        return words, Stage.WHOLE
+    at = words.index("--stage")
+    name = "".join(words[at + 1:at + 2]).upper()
+    return words[:at] + words[at + 2:], Stage[name] if name in Stage.__members__ else None
+
+
 def main(words: list[str]) -> Status:
-    stage, checked = Stage.WHOLE, "--check" in words
-    words = [word for word in words if word != "--check"]
-    if "--stage" in words:
-        at = words.index("--stage")
-        stage = Stage.named(words[at + 1])
-        del words[at:at + 2]
+    checked = "--check" in words
+    words, stage = staged([word for word in words if word != "--check"])
+    if stage is None:
+        print(f"simulate.py: --stage needs one of {', '.join(name.lower() for name in Stage.__members__)}", file=sys.stderr)
+        return Status.USAGE
     command = command_of(words)
     if command is None:
         status, text = Status.USAGE, b"usage: pse52 COMMAND NUMBERS\n"

@@ -40,13 +40,19 @@ class NamedNothing(Exception):
     """A measure had nothing to measure, or no run could be measured. The table is written all the same."""
 
 
+def count_of(word: str) -> int:
+    if word.isdecimal() and int(word) >= 1:
+        return int(word)
+    raise argparse.ArgumentTypeError(f"'{word}' is not how many runs go at once; what is measured is said in SWEEP.toml")
+
+
 def words_of(words: list[str]) -> argparse.Namespace:
     parser = argparse.ArgumentParser(
         prog="pse52-sweep", allow_abbrev=False,
         description="Runs one script with many values, and writes a table SWEEP.csv with a line for each run.")
     parser.add_argument("--version", action="version", version=f"pse52-sweep {(TOP / 'VERSION').read_text().strip()}")
     parser.add_argument("sweep", type=Path, metavar="SWEEP.toml")
-    parser.add_argument("--jobs", type=int, default=os.cpu_count() or 1, metavar="N", help="runs at once, on each machine")
+    parser.add_argument("--jobs", type=count_of, default=os.cpu_count() or 1, metavar="N", help="runs at once, on each machine")
     parser.add_argument("--sshlogin", metavar="HOSTS", help="machines, as GNU parallel takes them; ':' is this one")
     parser.add_argument("--output", type=Path, metavar="FILE.csv", help="the table; what is kept and drawn stands beside it")
     parser.add_argument("--by", metavar="NAME[,NAME]", help="also print the figures put together by the values of these names")
@@ -57,10 +63,7 @@ def words_of(words: list[str]) -> argparse.Namespace:
                         help="what runs a script; without it PSE52 of the environment, or bin/pse52")
     parser.add_argument("--engine", choices=("parallel", "xargs"), help="without it GNU parallel where that is here")
     parser.add_argument("--anew", action="store_true", help="forget the rows that are done")
-    said = parser.parse_args(words)
-    if said.jobs < 1:
-        parser.error("--jobs is at least 1")
-    return said
+    return parser.parse_args(words)
 
 
 def program_of(said: str | None) -> list[str]:
@@ -72,7 +75,7 @@ def program_of(said: str | None) -> list[str]:
         return [str(Path(word).resolve()) if os.sep in word and Path(word).exists() else word for word in words]
     ended = subprocess.run([str(TOP / "bin" / "pse52"), "--which"], stdout=subprocess.PIPE, text=True, check=False)
     if ended.returncode != 0:
-        raise NoProgram("--program names another one, as 'python3 tools/reference/simulate.py'")
+        raise NoProgram(f"--program '{TOP}/bin/pse52 --released' runs the release, --program 'python3 {TOP}/tools/reference/simulate.py' the reference")
     return [ended.stdout.rstrip("\n")]
 
 

@@ -7,6 +7,11 @@ from itertools import pairwise
 from pathlib import Path
 
 MOST_LINES = 12
+# Whole figures on an axis that is shorter than this have a stroke each: gnuplot would put some between them.
+FEW = 6
+# Dashes and points of lines, so that they are told apart without their colours.
+DASHES = ("1", "(12,6)", "(3,4)")
+SIGNS = (7, 5, 9, 11, 13)
 HEAD = """\
 set terminal svg size 760,440 dynamic enhanced font 'DejaVu Sans,12' background rgb 'white'
 set output {out}
@@ -16,7 +21,7 @@ set ylabel '{y}'
 LINES = """\
 set grid
 set key outside right
-set xrange [{left}:{right}]
+{counts}set xrange [{left}:{right}]
 set yrange [0:{top}]
 """
 MAP = """\
@@ -56,7 +61,10 @@ def _frame(points: Points, deadline: int | None) -> str:
     places = [at[0] for at in points]
     margin = max(1, max(places) - min(places)) * 0.03
     left = max(0.0, min(places) - margin)
-    return LINES.format(left=left, right=max(places) + margin, top=max([1, deadline or 0, *points.values()]) * 1.08)
+    top = max([1, deadline or 0, *points.values()]) * 1.08
+    counts = "".join(f"set {axis}tics 1\n" for axis, figures, far in (("x", places, max(places) - left), ("y", points.values(), top))
+                     if far < FEW and all(figure == int(figure) for figure in figures))
+    return LINES.format(left=left, right=max(places) + margin, top=top, counts=counts)
 
 
 def _deadline(deadline: int | None) -> str:
@@ -83,13 +91,14 @@ def _line(points: Points, deadline: int | None) -> str:
 
 
 def _lines(points: Points, name: str, deadline: int | None) -> str:
-    """A line for each value. The first are the widest, so that one that hides another leaves its edges to be seen."""
+    """A line for each value. The first are the widest, so that one that hides another leaves its edges to be seen; each has dashes and points of its own."""
     data, plots = "", []
     seconds = sorted({second for _, second in points})
     for number, second in enumerate(seconds):
         data += _data(f"d{number}", {at: figure for at, figure in points.items() if at[1] == second})
-        wide = 2 + 1.6 * (len(seconds) - 1 - number)
-        plots.append(f"$d{number} using 1:3 with linespoints lw {wide:.1f} pt 7 ps 0.4 title '{_shown(name)} {second}'")
+        wide = 1.8 + 0.5 * (len(seconds) - 1 - number)
+        look = f"lw {wide:.1f} dt {DASHES[number % len(DASHES)]} pt {SIGNS[number % len(SIGNS)]} ps 0.8"
+        plots.append(f"$d{number} using 1:3 with linespoints {look} title '{_shown(name)} {second}'")
     return data + "plot " + ", \\\n  ".join(plots) + _deadline(deadline) + "\n"
 
 

@@ -12,10 +12,10 @@ HANDLER, CLEANUP = "#7a3fb0", "#8c4a1f"
 
 
 def labels(span: Span) -> list[str]:
-    """What may be written into a wait, the longest first: the kind and the name, the name, nothing."""
+    """What may be written into a wait, the longest first: the kind and the name, the name, the kind, nothing."""
     if not span.kind:
         return [span.call]
-    return [f"{WORDS[span.kind]} {span.what}".strip(), span.what or WORDS[span.kind]]
+    return [f"{WORDS[span.kind]} {span.what}".strip(), span.what, WORDS[span.kind]]
 
 
 def sentence(name: str, span: Span) -> str:

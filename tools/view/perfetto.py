@@ -79,7 +79,7 @@ class _Events:
         if mark.sentence:
             name = mark.kind.value
         else:
-            name = " ".join([what[1], *(what[3:5] if mark.kind in (MarkKind.RETURN, MarkKind.ERROR) else what[3:])])
+            name = " ".join([what[1], *(what[3:5] if mark.kind in (MarkKind.RETURN, MarkKind.ERROR, MarkKind.CLOCK) else what[3:])])
         return (f'{self._head("i", number, mark.time)},"s":"t","name":{json.dumps(name)},"cat":"{mark.kind.value}",'
                 f'"args":{{"line":{json.dumps(line)}}}}}')
 

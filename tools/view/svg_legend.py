@@ -10,7 +10,7 @@ from .timeline import MarkKind, State, Timeline
 
 WHAT: dict[MarkKind, str] = {
     MarkKind.START: "start", MarkKind.EXIT: "exit", MarkKind.RETURN: "a call returns 0",
-    MarkKind.ERROR: "a call returns an error", MarkKind.CANCEL: "cancel", MarkKind.DELIVER: "a signal is delivered",
+    MarkKind.ERROR: "a call returns an error", MarkKind.CLOCK: "the clock is set", MarkKind.CANCEL: "cancel", MarkKind.DELIVER: "a signal is delivered",
     MarkKind.ACTIVATE: "activate", MarkKind.EXHAUST: "exhaust", MarkKind.PLAN: "plan", MarkKind.REFILL: "refill",
     MarkKind.RELEASE: "a job is released", MarkKind.LATE: "its deadline, missed"}
 MOST_COLOURS = 24
@@ -47,7 +47,7 @@ def draw_legend(out: Writer, timeline: Timeline, axis: Axis, colours: dict[int, 
     kinds = {mark.kind for thread in timeline.threads for mark in thread.marks}
     for kind in (kind for kind in MarkKind if kind in kinds):
         at = flow.room(len(WHAT[kind]), 14)
-        draw_mark(out, kind, at + 5, flow.y - 4, 4)
+        draw_mark(out, kind, at + (3 if kind is MarkKind.LATE else 5), flow.y - 4, 4)
         out.text(at + 14, flow.y, WHAT[kind], size=10.5, fill=INK)
     if any(thread.is_sporadic for thread in timeline.threads):
         _item(out, flow, "blue line: the server's capacity; dashed arrow: from a plan to its due tick", FAINT)

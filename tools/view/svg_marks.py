@@ -7,7 +7,7 @@ from .axis import Axis
 from .svg_writer import Writer, short
 from .timeline import Mark, MarkKind, ThreadLine
 
-GREEN, RED, VIOLET, BLUE, INK = "#1f8a4c", "#c21f1f", "#7a3fb0", "#2b62a8", "#3c4454"
+GREEN, RED, VIOLET, BLUE, INK, TEAL = "#1f8a4c", "#c21f1f", "#7a3fb0", "#2b62a8", "#3c4454", "#0b6e69"
 MOST_TITLE_LINES = 6
 MOST_LEVELS = 4
 # How far apart marks of one kind stand at least: further where they are many, each then for all that follow it up to there.
@@ -41,6 +41,8 @@ def shape(kind: MarkKind, x: float, y: float, r: float) -> tuple[str, dict[str, 
                 "stroke": INK, "stroke-width": "1.1", "fill": "none"}
         case MarkKind.LATE:
             return f"M{mx},{d}V{c}L{short(x + 1.6 * r)},{short(y - r / 2)}L{mx},{my}", {"stroke": RED, "stroke-width": "1", "fill": RED}
+        case MarkKind.CLOCK:
+            return f"M{a},{c}H{b}L{a},{d}H{b}Z", {"fill": TEAL}
         case MarkKind.ERROR:
             return f"M{mx},{c}V{d}", {"stroke": RED, "stroke-width": "2", "fill": "none"}
         case _:
@@ -53,7 +55,8 @@ def _ring(x: float, y: float, r: float) -> str:
 
 
 IN_THE_LANE = frozenset((MarkKind.PLAN, MarkKind.REFILL))
-LABELLED = frozenset((MarkKind.DELIVER, MarkKind.ERROR, MarkKind.LATE))
+# The kinds that have a label, and its colour.
+LABELLED = {MarkKind.DELIVER: VIOLET, MarkKind.ERROR: RED, MarkKind.LATE: RED, MarkKind.CLOCK: TEAL}
 
 
 @dataclass
@@ -73,6 +76,11 @@ class Marks:
 
     groups: list[Group] = field(default_factory=list)
     levels: int = 1
+
+
+def reach(kind: MarkKind, r: float) -> float:
+    """How far a mark goes to the right of its place: a flag goes further than the others."""
+    return 1.6 * r if kind is MarkKind.LATE else r
 
 
 def draw_mark(out: Writer, kind: MarkKind, x: float, y: float, r: float, title: str = "") -> None:
@@ -104,7 +112,7 @@ def place_marks(thread: ThreadLine, axis: Axis, r: float, right: float) -> Marks
 
 def _stack(group: Group, r: float, taken: list[list[tuple[float, float]]], right: float) -> None:
     text = group.marks[0].label if group.kind in LABELLED else ""
-    wide = r + 3 + len(text) * LETTER if text else r
+    wide = reach(group.kind, r) + 3 + len(text) * LETTER if text else r
     left, end = group.x - r, group.x + wide
     if text and end > right:
         left, end = group.x - wide, group.x + r
@@ -126,10 +134,11 @@ def draw_marks(out: Writer, placed: Marks, lines: list[str], bar: float, high: f
         y = bar - r - 2 - group.level * (2 * r + 2)
         draw_mark(out, group.kind, group.x, y, r, title)
         if group.label and len(group.marks) == 1:
-            wide = r + 3 + len(group.label) * LETTER
+            side = reach(group.kind, r) + 2
+            wide = side + 1 + len(group.label) * LETTER
             left = group.x + wide > right
-            out.text(group.x + (-r - 2 if left else r + 2), y + 3, group.label, size=8.5, anchor="end" if left else "start",
-                     fill=VIOLET if group.kind is MarkKind.DELIVER else RED)
+            out.text(group.x + (-r - 2 if left else side), y + 3, group.label, size=8.5, anchor="end" if left else "start",
+                     fill=LABELLED[group.kind])
 
 
 def _title(marks: list[Mark], lines: list[str]) -> str:

@@ -3,10 +3,11 @@ from __future__ import annotations
 
 from .axis import Axis
 from .svg_spans import bins_of, is_dense
-from .svg_writer import FAINT, INK, Writer, short
+from .svg_writer import FAINT, INK, Writer, short, wide_of
 from .timeline import Owned, Span, State, ThreadLine, Timeline, Wake
 
 HEIGHT, BAR, LIST = 22.0, 13.0, 17.0
+NAME = 8.8
 OWNER, CONTENDED = "#e8d9b5", "#eab676"
 ARROW = "#5c6675"
 LEAST_APART = 12.0
@@ -29,8 +30,34 @@ def draw_mutex(out: Writer, mutex: Owned, axis: Axis, y: float) -> None:
         others = f", and {waiting} wait for it" if waiting else ""
         title = f"{owner} owns {mutex.name} for {end - start} ticks [{start}, {end}){others}"
         out.rect(left, y, right - left, BAR, title=title, fill=CONTENDED if waiting else OWNER, stroke="#b08d4c", stroke_width="0.6", class_="owner")
-        if right - left >= len(owner) * 5.4 + 4:
-            out.text((left + right) / 2, y + BAR - 3, owner, size=8.8, anchor="middle", fill=INK)
+    _draw_names(out, mutex, axis, y)
+
+
+def _draw_names(out: Writer, mutex: Owned, axis: Axis, y: float) -> None:
+    """The name of each owner in its bars; where none of those that touch has room for it, across or beside them."""
+    owned: list[list[tuple[int, int, str, int]]] = []
+    for bar in mutex.bars:
+        if owned and owned[-1][-1][1:3] == (bar[0], bar[2]):
+            owned[-1].append(bar)
+        else:
+            owned.append([bar])
+    free = axis.left
+    for number, bars in enumerate(owned):
+        owner, left, right = bars[0][2], axis.at(bars[0][0]), axis.at(bars[-1][1])
+        wide = wide_of(owner, NAME) + 3
+        places = [(axis.at(start) + axis.at(end)) / 2 for start, end, *_ in bars if axis.at(end) - axis.at(start) >= wide]
+        if not places and right - left >= wide:
+            places = [(left + right) / 2]
+        until = axis.at(owned[number + 1][0][0]) if number + 1 < len(owned) else axis.right
+        free = max(free, left) if places else free
+        for place in places:
+            out.text(place, y + BAR - 3, owner, size=NAME, anchor="middle", fill=INK)
+        if not places and until - right >= wide + 3:
+            out.text(right + 3, y + BAR - 3, owner, size=NAME, fill=INK)
+            right += wide + 3
+        elif not places and left - free >= wide + 3:
+            out.text(left - 3, y + BAR - 3, owner, size=NAME, anchor="end", fill=INK)
+        free = max(free, right)
 
 
 def _draw_shares(out: Writer, line: ThreadLine, axis: Axis, y: float) -> None:

@@ -32,7 +32,7 @@ class Sizes:
     def for_threads(count: int) -> "Sizes":
         if count <= 12:
             return Sizes(20, 16, 56, 8, 12)
-        return Sizes(15, 12, 38, 5, 10.5) if count <= 28 else Sizes(10, 8, 26, 3, 9)
+        return Sizes(15, 12, 38, 5, 10.5) if count <= 28 else Sizes(13, 9, 28, 3, 10)
 
     @property
     def radius(self) -> float:

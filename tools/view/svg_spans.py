@@ -5,13 +5,15 @@ from dataclasses import dataclass
 
 from .axis import Axis
 from .kinds import CLEANUP, COLOURS, HANDLER, labels, sentence
-from .svg_writer import FAINT, Writer, short
+from .svg_writer import FAINT, Writer, short, wide_of
 from .timeline import Span, State, ThreadLine
 
 Colours = dict[int, tuple[str, str]]
 NARROW = 2.0
 BIN = 3.0
-WAIT_LETTER = 0.58
+LEAST_RUN, LEAST_WAIT = 8.5, 8.4
+# A wait reaches from here to there of its bar; how far the letters that go lowest go below the line they stand on, in parts of their size.
+UPPER, LOWER, BELOW = 0.2, 0.8, 0.24
 
 
 def draw_spans(out: Writer, thread: ThreadLine, axis: Axis, colours: Colours, bar: float, high: float, text: float) -> None:
@@ -39,18 +41,19 @@ def _draw_span(out: Writer, name: str, span: Span, axis: Axis, colours: Colours,
             if span.high is False:
                 out.rect(left, bar, wide, high, fill="url(#low)", pointer_events="none", class_="low")
             label = f"{span.priority} {span.frame}".strip()
-            _label(out, [label, str(span.priority)], left, wide, bar + high * 0.74, text * 0.85, ink)
+            _label(out, [label, str(span.priority)], left, wide, bar + high * 0.74, max(LEAST_RUN, text * 0.85), ink)
             _draw_frame(out, span, left, bar, wide)
         case State.READY:
             out.rect(left, bar + high * 0.2, wide, high * 0.6, title=title, fill="#ffffff", stroke=FAINT, stroke_width="0.8", class_="ready")
             at = [f"ready at {span.priority}", "ready"] if span.priority else ["ready"]
-            _label(out, at, left, wide, bar + high * 0.68, text * 0.72, FAINT)
+            _label(out, at, left, wide, bar + high * 0.68, max(LEAST_WAIT, text * 0.72), FAINT)
             _draw_frame(out, span, left, bar + high * 0.2, wide)
         case State.WAITING:
             colour = COLOURS[span.kind]
-            out.rect(left, bar + high * 0.25, wide, high * 0.5, title=title, fill=colour, fill_opacity="0.16", class_="wait")
-            out.line(left, bar + high * 0.75, left + wide, bar + high * 0.75, stroke=colour, stroke_width="1.6", stroke_dasharray="2 2")
-            _label(out, labels(span), left, wide, bar + high * 0.66, text * 0.75, colour if span.kind != "sleep" else FAINT)
+            size, floor = max(LEAST_WAIT, text * 0.75), bar + high * LOWER
+            out.rect(left, bar + high * UPPER, wide, floor - bar - high * UPPER, title=title, fill=colour, fill_opacity="0.16", class_="wait")
+            out.line(left, floor, left + wide, floor, stroke=colour, stroke_width="1.6", stroke_dasharray="2 2")
+            _label(out, labels(span), left, wide, floor - 1 - size * BELOW, size, colour if span.kind != "sleep" else FAINT)
         case _:
             middle = bar + high / 2
             out.line(left, middle, left + wide, middle, title=title, stroke="#b9bfca", stroke_width="1", stroke_dasharray="2 4", class_="off")
@@ -63,9 +66,9 @@ def _draw_frame(out: Writer, span: Span, left: float, top: float, wide: float) -
 
 
 def _label(out: Writer, texts: list[str], left: float, wide: float, y: float, size: float, fill: str) -> None:
-    """The longest text that has room."""
+    """The longest text that has room; a number needs less beside it than a name."""
     for text in texts:
-        if text and wide >= len(text) * size * WAIT_LETTER + 4:
+        if text and wide >= wide_of(text, size) + (1 if text.isdecimal() else 3):
             out.text(left + wide / 2, y, text, size=size, anchor="middle", fill=fill)
             return
 

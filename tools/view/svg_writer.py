@@ -14,6 +14,16 @@ _PATTERNS = """<defs>
 </defs>
 """
 
+# How wide letters of the font are, at most, in parts of its size; every other one is narrower than OTHER.
+OTHER = 0.64
+_WIDE = {letter: wide for letters, wide in (("ijlIJ'", 0.3), ("ft,. ", 0.4), ("r-/:;()!", 0.42), ("w#+<=>", 0.84), ("mMW@%", 1.0), ("ACDGHKNOQRUVX", 0.79))
+         for letter in letters}
+
+
+def wide_of(text: str, size: float) -> float:
+    """How much room a text needs along its line."""
+    return size * sum(_WIDE.get(letter, OTHER) for letter in text)
+
 
 def short(number: float) -> str:
     """A place with at most two digits behind the point."""

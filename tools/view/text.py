@@ -16,7 +16,7 @@ MOST_MARK_ROWS = 4
 
 MARKS: dict[MarkKind, tuple[str, str]] = {
     MarkKind.START: (">", "start"), MarkKind.EXIT: ("x", "exit"), MarkKind.CANCEL: ("c", "cancel"),
-    MarkKind.DELIVER: ("s", "deliver"), MarkKind.ERROR: ("e", "an error is returned"),
+    MarkKind.DELIVER: ("s", "deliver"), MarkKind.ERROR: ("e", "an error is returned"), MarkKind.CLOCK: ("k", "the clock is set"),
     MarkKind.ACTIVATE: ("^", "activate"), MarkKind.EXHAUST: ("!", "exhaust"), MarkKind.PLAN: ("p", "plan"),
     MarkKind.REFILL: ("+", "refill"), MarkKind.RELEASE: ("r", "release of a job"), MarkKind.LATE: ("L", "a deadline is missed")}
 MANY = "&"
@@ -28,8 +28,8 @@ SIGNS: dict[tuple[State, str], tuple[str, str]] = {
     (State.WAITING, "signal"): ("!", "for a signal"), (State.WAITING, "join"): (":", "for a thread to end"),
     (State.OFF, ""): ("?", "not running and no more is told")}
 FRAMES = {False: ("*", "in a signal handler"), True: ("_", "in a cleanup handler")}
-OWNERS = "123456789abcdefghijklmnopqrstuvwxyz"
-UNSHOWN = "+"
+OWNERS = "123456789abcdefghijklmnopqrstuvwxyz" + LETTERS
+UNSHOWN, OTHER = "+", "@"
 
 
 @dataclass(frozen=True, slots=True)
@@ -116,15 +116,35 @@ def frames_row(thread: ThreadLine, columns: Columns) -> list[str]:
     return ["".join(row).rstrip()] if any(span.frame for span in thread.spans) else []
 
 
+def owner_signs(timeline: Timeline) -> dict[str, str]:
+    """A sign for each thread, or where they are more than the signs for each that owns a mutex; those behind the last sign share one."""
+    names = [thread.name for thread in timeline.threads]
+    if len(names) > len(OWNERS):
+        owners = {owner for mutex in timeline.mutexes for _, _, owner, _ in mutex.bars}
+        names = [name for name in names if name in owners]
+    return {name: OWNERS[at] if at < len(OWNERS) else OTHER for at, name in enumerate(names)}
+
+
+def owners_told(timeline: Timeline) -> str:
+    """The line of the legend that says whose each sign is."""
+    signs = owner_signs(timeline)
+    told = [f"{sign} {name}" for name, sign in signs.items() if sign != OTHER]
+    if len(told) < len(signs):
+        told.append(f"{OTHER} one of {len(signs) - len(told)} more")
+    if any(owner not in signs for mutex in timeline.mutexes for _, _, owner, _ in mutex.bars):
+        told.append(f"{UNSHOWN} a thread that is not shown")
+    return f"owners: {', '.join(told)}"
+
+
 def owner_rows(timeline: Timeline, columns: Columns) -> list[tuple[str, str]]:
-    """For each mutex its name, and the number of its owner in each column."""
-    numbers = {thread.name: OWNERS[at % len(OWNERS)] for at, thread in enumerate(timeline.threads)}
+    """For each mutex its name, and the sign of its owner in each column."""
+    signs = owner_signs(timeline)
     rows = []
     for mutex in timeline.mutexes:
         row = [" "] * columns.count
         for start, end, owner, _ in mutex.bars:
             for column in range(columns.of(start), columns.of(end - 1) + 1):
-                row[column] = numbers.get(owner, UNSHOWN)
+                row[column] = signs.get(owner, UNSHOWN)
         rows.append((mutex.name, "".join(row).rstrip()))
     return rows
 
@@ -230,11 +250,7 @@ def legend(timeline: Timeline, columns: Columns, letters: dict[int, str]) -> lis
     if told:
         lines.append(", ".join(told))
     if timeline.mutexes:
-        owners = [f"{OWNERS[at % len(OWNERS)]} {thread.name}" for at, thread in enumerate(timeline.threads)]
-        names = {thread.name for thread in timeline.threads}
-        if any(bar[2] not in names for mutex in timeline.mutexes for bar in mutex.bars):
-            owners.append(f"{UNSHOWN} a thread that is not shown")
-        lines.append(f"owners: {', '.join(owners)}")
+        lines.append(owners_told(timeline))
     marks = [f"{sign} {what}" for kind, (sign, what) in MARKS.items() if kind in kinds]
     if marks:
         lines.append(f"marks: {', '.join(marks)}")

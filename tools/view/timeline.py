@@ -30,6 +30,7 @@ class MarkKind(Kind):
     EXIT = "exit"
     RETURN = "return"
     ERROR = "error"
+    CLOCK = "clock"
     CANCEL = "cancel"
     DELIVER = "deliver"
     ACTIVATE = "activate"

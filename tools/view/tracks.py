@@ -133,7 +133,9 @@ class Builder:
         track.state, track.capacity = None, None
 
     def returns(self, event: Return) -> None:
-        if event.result == "0":
+        if (event.call, event.result) == ("clock_settime", "0"):
+            track = self.mark(event, MarkKind.CLOCK, "clock")
+        elif event.result == "0":
             track = self.mark(event, MarkKind.RETURN, event.call)
         else:
             track = self.mark(event, MarkKind.ERROR, event.result)

@@ -33,6 +33,7 @@ CASES = [
     (BODY.format("run 2.5"), 2, 5, "BadNumber", "whole numbers"),
     (BODY.format("run 5ms"), 2, 5, "BadNumber", "without a unit, as 5"),
     (BODY.format("set -1"), 2, 5, "BadNumber", "no number is negative"),
+    (BODY.format("run {budget}"), 2, 5, "BadNumber", "bin/pse52-sweep fills it in"),
     (BODY.format("run 0x10"), 2, 5, "BadNumber", "in decimal: 16"),
     (BODY.format(f"run 0x{'f' * 5000}"), 2, 5, "BadNumber", f"'0x{'f' * 53}...' is no number"),
     (f"thread s sporadic 9 1 {'9' * 5000} 3 at 0\nend\n", 1, 10, "UnknownWord", "there are 4"),

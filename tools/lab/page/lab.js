@@ -124,7 +124,7 @@ function start({ text, of = null, ticks = "", at = 0n, beside = null }) {
 }
 function tellChanges() {
   const text = script(), of = lesson();
-  element("gallery").value = of ? of.name : "";
+  tellExample(of);
   element("lesson").classList.toggle("none", !of);
   element("sentence").textContent = of ? of.look : "";
   element("changes").replaceChildren(...(of ? of.changes : []).map((change) => {
@@ -134,6 +134,12 @@ function tellChanges() {
     button.onclick = () => make(change);
     return button;
   }));
+}
+// An example that was changed is another line of the menu, so that the one of the course can be chosen again.
+function tellExample(of) {
+  const other = of && (script() !== of.script || horizon() !== String(of.horizon)), menu = element("gallery");
+  menu.options[0].text = other ? of.name.replaceAll("_", " ") + ", changed" : "your own script";
+  menu.value = of && !other ? of.name : "";
 }
 // Makes a change, and keeps the run before it beside.
 function make(change) {
@@ -206,7 +212,7 @@ window.addEventListener("keydown", (key) => {
 
 function wire() {
   element("gallery").onchange = () => { if (element("gallery").value) { leave(); begin(element("gallery").value); } else start({ text: script() }); };
-  element("horizon").oninput = () => { runNow(); if (kept !== null) runs.b.run(kept, horizon(), title(), 0); remember(); };
+  element("horizon").oninput = () => { runNow(); tellExample(lesson()); if (kept !== null) runs.b.run(kept, horizon(), title(), 0); remember(); };
   element("beside").onclick = KEYS.c; element("sweep").onclick = toggleSweep; element("next").onclick = nextDifference;
   element("back").onclick = () => { const text = kept; leave(); keep(null); editor.write(text); };
   element("least").oninput = element("most").oninput = sweep.bounds;

@@ -2,22 +2,24 @@
 const canvas = document.getElementById("picture"), pen = canvas.getContext("2d");
 const FONT = '"DejaVu Sans", Verdana, Helvetica, Arial, sans-serif';
 const sizesOf = (rows) => rows <= 12 ? { bar: 20, marks: 16, server: 54, gap: 8, object: 20 }
-  : rows <= 28 ? { bar: 14, marks: 12, server: 38, gap: 5, object: 16 } : { bar: 10, marks: 8, server: 26, gap: 3, object: 12 };
-const MOST_SCALE = 120, AXIS = 34, BIN = 3, MOST_LEVELS = 4;
+  : rows <= 28 ? { bar: 14, marks: 12, server: 38, gap: 5, object: 16 } : { bar: 12, marks: 9, server: 28, gap: 3, object: 15 };
+const MOST_SCALE = 120, AXIS = 34, BIN = 3, MOST_LEVELS = 4, LEAST_TEXT = 9;
 let sizes, gutter, levels, greatest;
 let width = 0, height = 0, scale = 1, left = 0, scroll = 0, place = 0, held = false, second = null, withLists = false, look = {};
 // What else is drawn on the rows, and who hears of each tick that is told: a page that has more than the picture adds to these.
 const overlays = [], hearers = [];
 const xOf = (where) => gutter + (where - left) * scale;
 const placeOf = (x) => left + (x - gutter) / scale;
+// Of each kind of mark the name of its colour, its corners, and what the legend says of it.
 const SHAPES = {
-  start: ["#1f8a4c", [[-1, -1], [1, 0], [-1, 1]], "start"], exit: ["#808a9c", [[-1, -1], [1, -1], [1, 1], [-1, 1]], "exit"],
-  activate: ["#2b7bd0", [[0, -1], [1, 1], [-1, 1]], "activate"], exhaust: ["#d93a3a", [[-1, -1], [1, -1], [0, 1]], "exhaust"],
-  deliver: ["#8b4fc2", [[0, -1], [1, 0], [0, 1], [-1, 0]], "a signal is delivered"], cancel: ["#d93a3a", [[-1, -1], [0, -0.3], [1, -1], [0.3, 0], [1, 1], [0, 0.3], [-1, 1], [-0.3, 0]], "cancel"],
-  error: ["#d93a3a", [[-0.3, -1], [0.3, -1], [0.3, 1], [-0.3, 1]], "a call returns an error"],
-  release: ["#808a9c", [[-0.15, 1], [-0.15, -0.2], [-0.8, -0.2], [0, -1], [0.8, -0.2], [0.15, -0.2], [0.15, 1]], "a job is released"],
-  late: ["#d93a3a", [[0, 1], [0, -1], [1.6, -0.5], [0.2, 0], [0.2, 1]], "its deadline, missed"],
+  start: ["green", [[-1, -1], [1, 0], [-1, 1]], "start"], exit: ["grey", [[-1, -1], [1, -1], [1, 1], [-1, 1]], "exit"],
+  activate: ["azure", [[0, -1], [1, 1], [-1, 1]], "activate"], exhaust: ["red", [[-1, -1], [1, -1], [0, 1]], "exhaust"],
+  deliver: ["violet", [[0, -1], [1, 0], [0, 1], [-1, 0]], "a signal is delivered"], cancel: ["red", [[-1, -1], [0, -0.3], [1, -1], [0.3, 0], [1, 1], [0, 0.3], [-1, 1], [-0.3, 0]], "cancel"],
+  error: ["red", [[-0.3, -1], [0.3, -1], [0.3, 1], [-0.3, 1]], "a call returns an error"], clock: ["teal", [[-1, -1], [1, -1], [-1, 1], [1, 1]], "the clock is set"],
+  release: ["grey", [[-0.15, 1], [-0.15, -0.2], [-0.8, -0.2], [0, -1], [0.8, -0.2], [0.15, -0.2], [0.15, 1]], "a job is released"],
+  late: ["red", [[0, 1], [0, -1], [1.6, -0.5], [0.2, 0], [0.2, 1]], "its deadline, missed"],
 };
+const LABELLED = new Set(["deliver", "error", "late", "clock"]);
 // How wide the names are, how high the rows and the marks on one another, and the greatest capacity of each server.
 function measure() {
   sizes = sizesOf(data.threads.length + data.mutexes.length / 2);
@@ -35,7 +37,7 @@ const room = (number) => sizes.marks + (levels[number] - 1) * (2 * radius() + 2)
 const ROW = (number) => room(number) + sizes.bar + sizes.gap + (data.threads[number].server ? sizes.server : 0);
 const whole = () => AXIS + 18 + data.threads.reduce((sum, _, number) => sum + ROW(number), 0) + data.mutexes.length * sizes.object + (withLists ? lists.length * 16 : 0);
 
-const COLOURS = ["ink", "faint", "line", "pale", "paper", "now", "held", "second", "cut", "blue", "owner", "contended", "dense-ready", "dense-wait", "arrow"];
+const COLOURS = ["ink", "faint", "line", "pale", "paper", "now", "held", "second", "cut", "blue", "owner", "contended", "dense-ready", "dense-wait", "arrow", "green", "grey", "azure", "red", "violet", "teal"];
 function readLook() {
   const style = getComputedStyle(document.documentElement);
   look.dark = document.documentElement.classList.contains("dark");
@@ -83,7 +85,7 @@ function draw() {
 }
 function drawKill() {
   const x = xOf(total);
-  if (data.killed && x >= gutter && x <= width) line(SHAPES.late[0], 2, x, AXIS - 6, x, Math.min(height, AXIS + whole() - scroll));
+  if (data.killed && x >= gutter && x <= width) line(look.red, 2, x, AXIS - 6, x, Math.min(height, AXIS + whole() - scroll));
 }
 function drawCursorBand() {
   const at = tickAt(place), x = xOf(at.start);
@@ -148,9 +150,9 @@ function drawRow(thread, number, y, bar) {
   pen.restore();
   write(fitted(thread.name, Math.min(12, sizes.bar), "bold"), 8, bar + sizes.bar * 0.75, Math.min(12, sizes.bar), look.ink, "left", "bold");
   if (thread.server) {
-    write(greatest[number], gutter - 7, bar + sizes.bar + 12, 8, look.faint, "right");
+    write(greatest[number], gutter - 7, bar + sizes.bar + 12, LEAST_TEXT, look.faint, "right");
     // A low lane has no room for both ends of its scale.
-    if (sizes.server > 30) write("0", gutter - 7, bar + sizes.bar + sizes.server - 9, 8, look.faint, "right");
+    if (sizes.server > 30) write("0", gutter - 7, bar + sizes.bar + sizes.server - 9, LEAST_TEXT, look.faint, "right");
   }
   line(look.pale, 1, 0, y + ROW(number) - 1, width, y + ROW(number) - 1);
 }
@@ -165,9 +167,10 @@ function label(texts, x, end, y, size, colour) {
   const start = Math.max(x, gutter), stop = Math.min(end, width);
   const text = texts.find((said) => said && stop - start > said.length * size * 0.62 + 4);
   if (text) write(text, (start + stop) / 2, y, size, colour, "center");
+  return Boolean(text);
 }
 function drawSpans(thread, bar) {
-  const drawn = [-1, -1, -1, -1], middle = bar + sizes.bar * 0.74, small = Math.min(10, sizes.bar - 2);
+  const drawn = [-1, -1, -1, -1], middle = bar + sizes.bar * 0.74, small = LEAST_TEXT, floor = bar + sizes.bar * 0.8;
   for (let i = firstFrom(thread.spans); i < thread.spans.length; i++) {
     const [from, to, state, priority, high, call, kind, what, , frame, cleanup] = thread.spans[i];
     const x = xOf(places[from]), end = xOf(places[to]);
@@ -182,11 +185,11 @@ function drawSpans(thread, bar) {
       label([(priority + " " + frame).trim(), String(priority)], x, end, middle, Math.min(11, sizes.bar - 1), ink);
     } else if (state === READY) {
       pen.strokeStyle = look.faint; pen.lineWidth = 0.8; pen.strokeRect(x, bar + sizes.bar * 0.2, wide, sizes.bar * 0.6);
-      label([priority ? "ready at " + priority : "ready", "ready"], x, end, bar + sizes.bar * 0.68, small - 1, look.faint);
+      label([priority ? "ready at " + priority : "ready", "ready"], x, end, bar + sizes.bar * 0.68, small, look.faint);
     } else if (state === WAITING) {
-      pen.globalAlpha = 0.2; pen.fillStyle = data.kinds[kind]; pen.fillRect(x, bar + sizes.bar * 0.25, wide, sizes.bar * 0.5); pen.globalAlpha = 1;
-      line(data.kinds[kind], 1.6, x, bar + sizes.bar * 0.76, end, bar + sizes.bar * 0.76, [2, 2]);
-      label([(data.words[kind] + " " + what).trim() || call, what], x, end, bar + sizes.bar * 0.64, small - 1, kind === "sleep" ? look.faint : look.dark ? look.ink : data.kinds[kind]);
+      pen.globalAlpha = 0.2; pen.fillStyle = data.kinds[kind]; pen.fillRect(x, bar + sizes.bar * 0.2, wide, sizes.bar * 0.6); pen.globalAlpha = 1;
+      line(data.kinds[kind], 1.6, x, floor, end, floor, [2, 2]);
+      label([(data.words[kind] + " " + what).trim() || call, what, data.words[kind]], x, end, floor - 1 - small * 0.24, small, kind === "sleep" ? look.faint : look.dark ? look.ink : data.kinds[kind]);
     } else line(look.faint, 1, x, bar + sizes.bar / 2, end, bar + sizes.bar / 2, [1, 5]);
     if (frame) { pen.fillStyle = data.frames[cleanup]; pen.fillRect(x, bar, wide, 3.6); }
   }
@@ -233,25 +236,48 @@ function drawOwnedShares(mutex, y) {
     shares = [0, 0];
   });
 }
-// Marks of one instant stand on one another, at their tick.
-function drawMarks(thread, bar) {
-  const r = radius();
-  let lastX = -99, level = 0, labelFree = [];
-  const seen = lastAtMost(thread.marks.length, (i) => places[thread.marks[i][0]], placeOf(width)) - firstFrom(thread.marks), apart = seen * 6 > width - gutter ? 16 : 2;
-  for (let i = firstFrom(thread.marks); i < thread.marks.length; i++) {
-    const [point, kind, text] = thread.marks[i], x = xOf(places[point]);
-    if (x > width + 4) break;
-    if (!(kind in SHAPES)) continue;
-    if (x - lastX < apart && x !== lastX) continue;
+// The marks in sight: where each stands, and how high, since those of one instant stand on one another.
+function marksInSight({ marks }) {
+  const past = lastAtMost(marks.length, (i) => places[marks[i][0]], placeOf(width + 4)) + 1, seen = [];
+  let from = firstFrom(marks), lastX = -99, level = 0;
+  while (from > 0 && marks[from - 1][0] === marks[from][0]) from--;
+  if ((past - from) * 6 > width - gutter) return thinned(marks, from, past);
+  for (let i = from; i < past && i < marks.length; i++) {
+    const [point, kind, text] = marks[i], x = xOf(places[point]);
+    if (!(kind in SHAPES) || (x - lastX < 2 && x !== lastX)) continue;
     level = x === lastX ? level + 1 : 0; lastX = x;
-    if (level >= MOST_LEVELS) continue;
+    if (level < MOST_LEVELS) seen.push({ x, kind, text, level });
+  }
+  return seen;
+}
+// Of too many marks some of each kind, those of the rarest kind first, so that no kind takes the room of another.
+function thinned(marks, from, past) {
+  const counts = {}, taken = new Uint8Array(Math.ceil(width) + 60), wide = Math.ceil(2 * radius()) + 1, kept = [];
+  for (let i = from; i < past; i++) if (marks[i][1] in SHAPES) counts[marks[i][1]] = (counts[marks[i][1]] || 0) + 1;
+  const kinds = Object.keys(counts).sort((a, b) => counts[a] - counts[b]), apart = Math.max(24, (wide + 2) * kinds.length);
+  for (const kind of kinds) {
+    let free = placeOf(gutter - 10);
+    for (let i = from; i < past; i++) {
+      const place = places[marks[i][0]];
+      if (place < free || marks[i][1] !== kind) continue;
+      const x = xOf(place), at = Math.round(x) + 20;
+      if (taken[at]) continue;
+      taken.fill(1, Math.max(0, at - wide + 1), at + wide); free = placeOf(x + apart);
+      kept.push({ x, kind, text: "", level: 0 });
+    }
+  }
+  return kept;
+}
+function drawMarks(thread, bar) {
+  const r = radius(), labelFree = [];
+  for (const { x, kind, text, level } of marksInSight(thread)) {
     const [colour, corners] = SHAPES[kind], y = bar - r - 2 - level * (2 * r + 2);
-    pen.fillStyle = colour; pen.beginPath();
+    pen.fillStyle = look[colour]; pen.beginPath();
     corners.forEach(([dx, dy], n) => pen[n ? "lineTo" : "moveTo"](x + dx * r, y + dy * r));
     pen.closePath(); pen.fill();
-    if ((kind === "deliver" || kind === "error" || kind === "late") && x + r > (labelFree[level] || -99) && sizes.marks >= 12) {
-      const wide = r + 3 + text.length * 6, inside = x + wide < width;
-      write(text, inside ? x + r + 2 : x - r - 2, y + 3, 9, colour, inside ? "left" : "right");
+    if (text && LABELLED.has(kind) && x + r > (labelFree[level] || -99) && sizes.marks >= 9) {
+      const side = (kind === "late" ? 1.6 : 1) * r + 2, wide = side + 1 + text.length * 6, inside = x + wide < width;
+      write(text, inside ? x + side : x - r - 2, y + 3, LEAST_TEXT, look[colour], inside ? "left" : "right");
       labelFree[level] = x + wide;
     }
   }
@@ -315,11 +341,24 @@ function drawOwners(mutex, y) {
   write(fitted(mutex.name, 10), 8, y + sizes.object - 8, 10, look.faint);
   if (isCrowded(mutex.bars)) { drawOwnedShares(mutex, y); return; }
   for (let i = firstFrom(mutex.bars); i < mutex.bars.length; i++) {
-    const [from, to, owner, waiting] = mutex.bars[i], x = Math.max(gutter, xOf(places[from])), end = xOf(places[to]);
+    const [from, to, , waiting] = mutex.bars[i], x = Math.max(gutter, xOf(places[from])), end = xOf(places[to]);
     if (x > width) break;
     if (end < gutter) continue;
     pen.fillStyle = waiting ? look.contended : look.owner; pen.fillRect(x, y, Math.max(0.6, end - x), sizes.object - 6);
-    label([owner], x, end, y + sizes.object - 9, Math.min(9, sizes.object - 6), look.ink);
+  }
+  nameOwners(mutex.bars, y + sizes.object - 9);
+}
+// The name of each owner in its bars; where none of those that touch has room for it, across them or behind them.
+function nameOwners(bars, y) {
+  for (let i = firstFrom(bars); i < bars.length && xOf(places[bars[i][0]]) <= width;) {
+    const owner = bars[i][2];
+    const start = xOf(places[bars[i][0]]);
+    let next = i, named = false;
+    do named = label([owner], xOf(places[bars[next][0]]), xOf(places[bars[next][1]]), y, LEAST_TEXT, look.ink) || named;
+    while (++next < bars.length && bars[next][2] === owner && bars[next][0] === bars[next - 1][1]);
+    const end = xOf(places[bars[next - 1][1]]), until = next < bars.length ? Math.min(width, xOf(places[bars[next][0]])) : width;
+    if (!named && !label([owner], start, end, y, LEAST_TEXT, look.ink) && end >= gutter && until - end > owner.length * LEAST_TEXT * 0.62 + 6) write(owner, end + 3, y, LEAST_TEXT, look.ink);
+    i = next;
   }
 }
 function drawList(priority, changes, y) {

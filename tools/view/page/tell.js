@@ -79,13 +79,13 @@ function legend() {
   if (data.wakes.length) items.push([box('<path d="M2,1C-2,6 6,6 9,10" fill="none" stroke="var(--arrow)"/>'), "who wakes whom"]);
   for (const [kind, [colour, corners, text]] of Object.entries(SHAPES))
     if (data.threads.some((thread) => thread.marks.some((mark) => mark[1] === kind)))
-      items.push([box(`<path transform="translate(10 5.5) scale(4.4)" d="M${corners.map((corner) => corner.join(",")).join("L")}Z" fill="${colour}"/>`), text]);
+      items.push([box(`<path transform="translate(10 5.5) scale(4.4)" d="M${corners.map((corner) => corner.join(",")).join("L")}Z" fill="var(--${colour})"/>`), text]);
   if (data.threads.some((thread) => thread.server)) items.push(
     [box('<path d="M0,2H9V6H14V10H20" fill="none" stroke="var(--blue)" stroke-width="1.5"/>'), "capacity"], [box('<circle cx="10" cy="5.5" r="3.5" fill="none" stroke="var(--blue)"/>'), "plan"],
     [box('<circle cx="10" cy="5.5" r="3.5" fill="var(--blue)"/>'), "refill, with its amount"]);
   if (last >= LONG) items.push([box('<rect y="7" width="20" height="4" fill="#4575b4"/><rect y="4" width="20" height="3" fill="var(--dense-ready)"/><rect width="20" height="4" fill="var(--dense-wait)"/>'),
     "where all stands close: for how much of it a thread runs, is ready, waits"]);
-  if (data.killed) items.push([box(`<path d="M10,0V11" stroke="${SHAPES.late[0]}" stroke-width="2"/>`), "killed by " + data.killed]);
+  if (data.killed) items.push([box(`<path d="M10,0V11" stroke="var(--red)" stroke-width="2"/>`), "killed by " + data.killed]);
   if (data.cuts.length) items.push([box('<rect width="20" height="11" fill="#b4a88c" opacity="0.5"/>'), "nothing happens there, and the axis is cut"]);
   element("legend").innerHTML = items.map(([icon, text]) => "<span>" + icon + text + "</span>").join("");
 }

@@ -7,11 +7,14 @@ import unittest
 import xml.etree.ElementTree as ElementTree
 
 from measure.measures import measure_of_words
+from view.axis import Axis
 from view.lines import read_trace
 from view.main import FORMATS, drawer
 from view.releases import mark_jobs
 from view.seen import timeline_of
-from view.timeline import Span, State, Timeline
+from view.svg_spans import draw_spans
+from view.svg_writer import Writer
+from view.timeline import Span, State, ThreadLine, Timeline
 from view.window import NoWindow, window
 
 from .details import detail_of, trace_of
@@ -157,6 +160,21 @@ class Lessons(unittest.TestCase):
             (33, "control", "server", "mq_send"), (52, "monitor", "control", "unlock")])
 
 
+class Owners(unittest.TestCase):
+    """The signs of owners in a terminal."""
+
+    def drawn(self, threads: int) -> str:
+        bodies = (f"thread t{number} fifo 5 at {number * 3}\nlock m\nunlock m\nend\n" for number in range(threads))
+        return drawer("text")(seen_of(detail_of(f"mutex m none\n{''.join(bodies)}".encode(), 3 * threads + 1)), 300)
+
+    def test_no_two_share_a_sign(self) -> None:
+        told = next(line for line in self.drawn(50).splitlines() if line.startswith("owners: ")).removeprefix("owners: ").split(", ")
+        self.assertEqual(len({owner.split()[0] for owner in told}), 50)
+
+    def test_those_behind_the_last_sign_are_told(self) -> None:
+        self.assertIn(", Z t60, @ one of 3 more\n", self.drawn(64))
+
+
 class Pictures(unittest.TestCase):
     def svg(self, name: str, **how) -> ElementTree.Element:
         return ElementTree.fromstring(drawer("svg")(window(example(name), how.get("start"), how.get("end"), how.get("names")), None, how.get("lists", False)))
@@ -181,6 +199,26 @@ class Pictures(unittest.TestCase):
                 left = float(text.get("x")) - {"end": long, "middle": long / 2}.get(text.get("text-anchor"), 0)
                 self.assertGreaterEqual(left, -1, (file.stem, text.text))
                 self.assertLessEqual(left + long, wide, (file.stem, text.text))
+
+    def test_each_owner_has_its_name(self) -> None:
+        """Those of a mutex that are too narrow have it beside them."""
+        owners = [text.text for text in self.svg("20_controller").iter(f"{SVG}text") if text.get("font-size") == "8.8" and text.get("x") != "8"]
+        self.assertEqual((owners.count("control"), owners.count("server")), (5, 3))
+
+    def test_a_setting_of_the_clock_has_a_mark(self) -> None:
+        root = self.svg("27_clock_set")
+        self.assertEqual(sum(path.get("class") == "mark clock" for path in root.iter(f"{SVG}path")), 2)
+        self.assertIn("the clock is set", [text.text for text in root.iter(f"{SVG}text")])
+        self.assertIn("k the clock is set", drawer("text")(example("27_clock_set")))
+
+    def test_waits_keep_off_their_line(self) -> None:
+        """The letters that go lowest end above the dotted line, however low the bar is."""
+        for high in (20.0, 15.0, 13.0):
+            out = Writer()
+            draw_spans(out, ThreadLine("a", [Span(0, 9, State.WAITING, call="lock", kind="mutex", what="gyp")]), Axis([0, 9], 0, 300, 34, 6), {}, 0, high, 12)
+            root = ElementTree.fromstring(out.document(300, 30, ""))
+            text, line = next(root.iter(f"{SVG}text")), next(root.iter(f"{SVG}line"))
+            self.assertLess(float(text.get("y")) + 0.24 * float(text.get("font-size")), float(line.get("y1")) - 0.8)
 
     def test_amounts_stand_at_their_refill(self) -> None:
         root = self.svg("13_server_and_polling")

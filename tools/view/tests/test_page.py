@@ -33,6 +33,17 @@ OVER = {
     36: "36 · srv runs at priority 20, from 35 to 40", 43: "43 · mon runs at priority 10, from 43 to 44"}
 
 
+def contrast(one: str, other: str) -> float:
+    """How much a colour stands out from another one, by the measure of the WCAG."""
+    def light(colour: str) -> float:
+        digits = colour[1:] if len(colour) == 7 else "".join(2 * digit for digit in colour[1:])
+        parts = [int(digits[at:at + 2], 16) / 255 for at in (0, 2, 4)]
+        red, green, blue = (part / 12.92 if part <= 0.03928 else ((part + 0.055) / 1.055) ** 2.4 for part in parts)
+        return 0.2126 * red + 0.7152 * green + 0.0722 * blue
+    least, most = sorted((light(one), light(other)))
+    return (most + 0.05) / (least + 0.05)
+
+
 class Page(unittest.TestCase):
     def setUp(self) -> None:
         holder = tempfile.TemporaryDirectory(ignore_cleanup_errors=True)
@@ -73,6 +84,27 @@ class Page(unittest.TestCase):
         self.assertEqual(self.does('(over(38), lines("#states"))[1]'), "srv runs at priority 20, capacity 2")
         self.assertEqual(self.does('key("ArrowRight")')[:2], "39")
         self.assertEqual([self.does(f'key("{name}")')[:2] for name in ("ArrowLeft", "ArrowLeft", "n", "p")], ["38", "37", "40", "36"])
+
+    def test_of_too_many_marks_each_kind_has_some(self) -> None:
+        """A server that runs once in ten ticks is activated and exhausted 400 times, and starts and ends once."""
+        script = "thread s sporadic 9 2 10 2 4 at 0\nloop 400\nrun 3\nnanosleep 6\nend\nend\n"
+        self.open(drawer("html")(timeline_of(read_trace(detail_of(script.encode(), 5000).splitlines(keepends=True)))))
+        kinds = "[...new Set(%s)].filter((kind) => kind in SHAPES).sort().join()"
+        shown = self.does(kinds % "marksInSight(data.threads[0]).map((mark) => mark.kind)")
+        self.assertEqual(shown, self.does(kinds % "data.threads[0].marks.map((mark) => mark[1])"))
+        self.assertIn("exhaust", str(shown))
+        self.assertLess(self.does("marksInSight(data.threads[0]).length * 8"), self.does("width - gutter"))
+        self.shot("dense_marks")
+
+    def test_labels_can_be_read(self) -> None:
+        """The colours of labels stand out by 4.5 from the paper and from the band of the cursor, by the measure of the WCAG, light and dark."""
+        self.detail(CONTROLLER)
+        for dark in ("false", "true"):
+            self.does(f"setDark({dark})")
+            colours = dict(self.does("Object.entries(look).filter(([name]) => name !== 'dark')"))
+            for name in ("violet", "red", "teal", "ink"):
+                for ground in ("paper", "now"):
+                    self.assertGreaterEqual(contrast(colours[name], colours[ground]), 4.5, (dark, name, ground))
 
     def test_the_events_of_the_cursor_stand_near_the_top(self) -> None:
         self.open(drawer("html")(timeline(CONTROLLER)))

@@ -159,5 +159,19 @@ class Explanations(unittest.TestCase):
         self.assertIn("could not be written", self.on_a_terminal("bin/pse52 gen 7"))
 
 
+class Completion(unittest.TestCase):
+    """What bash offers behind words."""
+
+    def offered(self, *words: str) -> list[str]:
+        file = Path(__file__).parents[3] / "completions/pse52.bash"
+        asked = '. "$0"; COMP_WORDS=("$@"); COMP_CWORD=$(($# - 1)); _pse52; printf "%s\\n" "${COMPREPLY[@]}"'
+        return subprocess.run(["bash", "-c", asked, str(file), *words], capture_output=True, text=True, check=True).stdout.split()
+
+    def test_options(self) -> None:
+        self.assertEqual(self.offered("pse52", "explain", "-"), ["--lines"])
+        self.assertEqual(self.offered("pse52", "run", "5", "--rel"), ["--released"])
+        self.assertEqual(self.offered("pse52", "expl"), ["explain"])
+
+
 if __name__ == "__main__":
     unittest.main()

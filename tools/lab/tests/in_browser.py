@@ -1,0 +1,100 @@
+"""The page in a real browser, as the tests of it use it.
+
+With PSE52_SHOTS in the environment, the name of a folder, it keeps what the browser shows there as pictures to be looked at.
+"""
+from __future__ import annotations
+
+import os
+import time
+import unittest
+from pathlib import Path
+
+from lab.parts import CODEMIRROR, OF_CODEMIRROR
+from view.tests.readers import browser
+
+from .served import TOP, Served
+
+INHERIT = (TOP / "examples" / "05_inherit.task").read_text()
+
+
+def has_codemirror() -> bool:
+    return all((CODEMIRROR / name).is_file() for name in OF_CODEMIRROR)
+
+
+class InBrowser(unittest.TestCase):
+    words: tuple[str, ...] = ()
+    size = (1400, 900)
+
+    @property
+    def is_plain(self) -> bool:
+        """Whether the script is in a text area."""
+        return "--plain" in self.words or not has_codemirror()
+
+    def setUp(self) -> None:
+        self.driver = browser(*self.size)
+        self.addCleanup(self.driver.quit)
+        self.lab = Served("--seconds", "600", *self.words)
+        self.addCleanup(self.lab.end)
+        self.addCleanup(self.no_complaint)
+
+    def no_complaint(self) -> None:
+        self.assertEqual(self.driver.get_log("browser"), [])
+
+    def open(self, fragment: str = "") -> None:
+        """Opens the page, and waits for its first picture."""
+        self.driver.get("about:blank")
+        self.driver.get(self.lab.address + fragment)
+        self.until("return window.lab && lab.drawn !== ''")
+
+    def does(self, script: str, *words: object) -> object:
+        return self.driver.execute_script(script, *words)
+
+    def until(self, script: str, wanted: object = True, seconds: float = 60) -> None:
+        ends = time.monotonic() + seconds
+        while (said := self.does(script)) != wanted:
+            if time.monotonic() > ends:
+                self.assertEqual(said, wanted, script)
+            time.sleep(0.03)
+
+    def shot(self, name: str) -> None:
+        if "PSE52_SHOTS" in os.environ:
+            time.sleep(0.3)
+            self.driver.save_screenshot(str(Path(os.environ["PSE52_SHOTS"]) / f"{name}.png"))
+
+    def press(self, *keys: str) -> None:
+        """Presses keys where the focus is."""
+        from selenium.webdriver.common.action_chains import ActionChains
+
+        ActionChains(self.driver).send_keys(*keys).perform()
+
+    def text(self, of: str) -> str:
+        return str(self.does("return document.querySelector(arguments[0]).textContent", of))
+
+    def in_frame(self, script: str, frame: str) -> object:
+        """What an expression says in the frame of a picture."""
+        self.driver.switch_to.frame(frame)
+        try:
+            return self.driver.execute_script(f"return {script}")
+        finally:
+            self.driver.switch_to.default_content()
+
+    def table(self, title: str, frame: str = "a") -> list[str]:
+        return list(self.in_frame(f"[...document.querySelectorAll('table[data-what^=\"{title}\"] tr')].map((row) => [...row.cells].map((cell) => cell.textContent).join(' | '))", frame))
+
+    def script(self) -> str:
+        return str(self.does("const code = document.querySelector('.CodeMirror'); return code ? code.CodeMirror.getValue() : document.querySelector('#plain textarea').value"))
+
+    def write(self, text: str) -> None:
+        """Empties the script, and types another one, as a user who does not want lines to be indented."""
+        from selenium.webdriver.common.action_chains import ActionChains
+        from selenium.webdriver.common.keys import Keys
+
+        self.does("document.querySelector('.CodeMirror, #plain textarea').CodeMirror?.focus(); document.querySelector('#plain textarea')?.focus()")
+        ActionChains(self.driver).key_down(Keys.CONTROL).send_keys("a").key_up(Keys.CONTROL).send_keys(Keys.DELETE).perform()
+        for line in text.splitlines(keepends=True):
+            self.press(line)
+        self.until("return lab.drawn", self.script())
+
+    def write_at_once(self, text: str) -> None:
+        self.does("""const code = document.querySelector('.CodeMirror'), area = document.querySelector('#plain textarea');
+            if (code) code.CodeMirror.setValue(arguments[0]); else { area.value = arguments[0]; area.dispatchEvent(new Event('input')); }""", text)

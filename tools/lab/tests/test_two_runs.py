@@ -1,0 +1,68 @@
+"""Two runs beside one another in a real browser, and a link that holds both."""
+from __future__ import annotations
+
+from .in_browser import InBrowser
+from .served import Served
+
+
+class TwoRuns(InBrowser):
+    def test_two_runs(self) -> None:
+        self.open("#example=04_inversion")
+        self.does("[...document.querySelectorAll('#changes button')].find((button) => button.textContent === 'make it inherit').click()")
+        self.until("return document.getElementById('differs').textContent", "The runs differ at 8 instants, first at 6.")
+        self.assertIn("mutex data none → mutex data inherit", self.text("#words"))
+        self.assertIn("6 dispatch medium 5", self.in_frame("data.lines", "b"))
+        self.assertIn("6 dispatch low 9", self.in_frame("data.lines", "a"))
+        self.assertEqual(self.in_frame("differing.medium.map(String)", "a"), self.in_frame("differing.medium.map(String)", "b"))
+        self.assertEqual(self.in_frame("differing.high.map(String)[0].split(',')[0]", "a"), "10")
+        if not self.is_plain:
+            self.assertEqual(self.text(".CodeMirror .changed"), "inherit")
+        self.does("document.getElementById('next').click()")
+        self.assertEqual([self.in_frame("pane.tick().toString()", frame) for frame in "ab"], ["6", "6"])
+        self.assertEqual(self.table("Who waits", "a"), ["high | in lock for low, the owner of data, since 6"])
+        self.shot("two_runs")
+        self.does("document.getElementById('beside').click()")
+        self.assertEqual(self.does("return document.getElementById('figure_b').hidden"), True)
+
+    def test_a_line_more_and_a_word_changed(self) -> None:
+        """The line that is new is told as such, and of the changed one the word alone is marked."""
+        self.open("#example=25_budget_in_a_window")
+        self.does("[...document.querySelectorAll('#changes button')].find((button) => button.textContent === 'make it strict').click()")
+        self.until("return document.getElementById('differs').textContent.startsWith('The runs differ')")
+        self.assertEqual(self.does("return [...document.querySelectorAll('#words li')].map((li) => li.textContent)"),
+                         ["line 9: → version 2", "line 10: thread server sporadic 8 2 10 3 4 at 2 → thread server strict 8 2 10 3 4 at 2"])
+        if not self.is_plain:
+            self.assertEqual(self.does("return [...document.querySelectorAll('.CodeMirror .changed')].map((word) => word.textContent)"), ["version", "2", "strict"])
+        self.does("document.getElementById('a').contentWindow.pane.goTo(7n)")
+        self.assertEqual([self.table("Budgets", frame) for frame in "ab"], [["server | capacity 3"]] * 2)
+
+    def test_a_run_that_is_shorter(self) -> None:
+        """The kept run is killed at 32: the cursor goes on in the other one."""
+        self.open("#example=07_pathfinder")
+        self.does("[...document.querySelectorAll('#changes button')].find((button) => button.textContent === 'make it inherit').click()")
+        self.until("return document.getElementById('differs').textContent.startsWith('The runs differ')")
+        self.does("document.getElementById('a').contentWindow.pane.goTo(50n)")
+        self.assertEqual([self.in_frame("pane.tick().toString()", frame) for frame in "ab"], ["50", "32"])
+        self.until("return location.hash.includes('cursor=50')")
+
+    def test_a_link_opened_again(self) -> None:
+        self.open("#example=04_inversion&horizon=30")
+        self.does("[...document.querySelectorAll('#changes button')].find((button) => button.textContent === 'let medium run 14').click()")
+        self.until("return lab.drawn.includes('    run 14\\n')")
+        self.does("document.getElementById('a').contentWindow.pane.goTo(17n)")
+        self.until("return location.hash.includes('cursor=17') && location.hash.includes('beside=')")
+        link, script = self.driver.current_url, self.script()
+        other = Served(link)
+        self.addCleanup(other.end)
+        self.driver.get("about:blank")
+        self.driver.get(other.link)
+        self.until("return window.lab && lab.drawn !== ''")
+        self.assertEqual(self.script(), script)
+        self.assertEqual(self.does("return document.getElementById('horizon').value"), "30")
+        self.until("return document.getElementById('a').contentWindow.pane.tick().toString()", "17")
+        self.until("return document.getElementById('differs').textContent.startsWith('The runs differ at')")
+        self.assertIn("    run 14\n", script)
+
+
+class PlainTwoRuns(TwoRuns):
+    words = ("--plain",)
