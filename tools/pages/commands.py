@@ -32,7 +32,7 @@ LEFT_OUT = {
     "tools/reference/selftest.py": "and this", "check_opens": "it takes hours", "make_release.sh": "it changes the release",
     "--sshlogin": "it needs other machines", "pse52-live": "it needs root, and two cores that are free",
     "pse52-lab": "it serves until it is ended, and tools/lab/tests starts it",
-    "make install": "tools/wrapper/tests installs", "PAGE..": "it changes pages"}
+    "make install": "tools/wrapper/tests installs", "make check": "this is part of it", "PAGE..": "it changes pages"}
 
 
 def named() -> Iterator[str]:
