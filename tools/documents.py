@@ -146,7 +146,7 @@ def wrong_names(name: str, text: str) -> list[str]:
 
 def wrong_cost() -> list[str]:
     """README says in how many minutes the program is proved as bin/pse52 says it."""
-    told = re.search(r"in (some \d+ minutes on four cores)", (TOP / "tools" / "wrapper" / "cost.sh").read_text())[1]
+    told = re.search(r"in (\d+ to \d+ minutes on four cores)", (TOP / "tools" / "wrapper" / "cost.sh").read_text())[1]
     readme = " ".join((TOP / "README.md").read_text().split())
     return [] if told in readme else [f"README.md does not say that a proof takes {told}, as tools/wrapper/cost.sh does"]
 

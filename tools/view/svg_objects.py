@@ -17,6 +17,7 @@ def draw_mutex(out: Writer, mutex: Owned, axis: Axis, y: float) -> None:
     """A bar for each owner, darker where others wait for it."""
     out.text(8, y + BAR - 2, mutex.name, size=10, fill=FAINT, title=f"the mutex {mutex.name}")
     out.line(8, y + HEIGHT - 3, axis.right, y + HEIGHT - 3, stroke="#eceef2", stroke_width="1")
+    # Where bars stand close a mutex is counted as a thread that runs while it is owned, at priority 1 while others wait for it.
     line = ThreadLine(mutex.name, [Span(start, end, State.RUNNING, min(waiting, 1)) for start, end, _, waiting in mutex.bars])
     if is_dense(line, axis):
         _draw_shares(out, line, axis, y)
