@@ -53,7 +53,7 @@ pub(crate) fn make_setprio<K: Sink>(
     p.returns(by, Res::Zero, 0, out);
 }
 
-// The thread has its new policy, and a server that is new where it is sporadic.
+// The thread has its new policy, and a server that is new where it is sporadic or strict.
 fn change_policy<K: Sink>(
     p: &mut Parts,
     by: &Caller<'_>,

@@ -91,7 +91,8 @@ impl Kernel {
         self.parts.last_dispatch()
     }
 
-    /// The totals of a thread's server since it was new, in ticks. `None` exactly where the thread is not a live sporadic one.
+    /// The totals of a thread's server since it was new, in ticks. `None` exactly where the thread is not a live sporadic
+    /// or strict one.
     pub fn totals(&self, t: Tid) -> Option<BudgetLine>
         requires { t < length self.now.names }
         ensures { result ≡ option_map totals (thread_at self.now.machine t).server }

@@ -29,7 +29,8 @@ pub enum RunEnd {
     Stopped,
 }
 
-/// Runs in leaps to the horizon, until a signal ends the process, or until a write fails, in one step a leap.
+/// Runs in leaps to the horizon, until a signal ends the process, or until a write fails, in one step a leap, and one for
+/// each unit that is passed.
 #[tactic(auto, using(crate::proofs::Running::still_fits))]
 pub(crate) fn run_leaps<K: Sink, L: Ledger>(
     p: &mut Parts,

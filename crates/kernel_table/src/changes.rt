@@ -80,8 +80,8 @@ impl Table {
         drop_wait(&mut self.real_waits, t);
     }
 
-    /// Its priority is that one; of a sporadic thread the high priority. The answer is the one thread that stands among no waiters and
-    /// whose execution priority changed; `None` exactly where there is none.
+    /// Its priority is that one; of a sporadic or strict thread the high priority. The answer is the one thread that stands among
+    /// no waiters and whose execution priority changed; `None` exactly where there is none.
     #[tactic(auto, using(crate::proofs::Ties::placed))]
     pub fn set_priority(&mut self, t: Tid, p: Prio) -> Option<Tid>
         requires known { t < length self.old.threads }
@@ -110,8 +110,8 @@ impl Table {
         self.threads.get_mut(t).clear_slice();
     }
 
-    /// It has that policy, and a new server where it is sporadic. The answer is the one thread that stands among no waiters and whose
-    /// execution priority changed; `None` exactly where there is none.
+    /// It has that policy, and a new server where it is sporadic or strict. The answer is the one thread that stands among no
+    /// waiters and whose execution priority changed; `None` exactly where there is none.
     #[tactic(auto, using(crate::proofs::Ties::placed))]
     pub fn set_policy(&mut self, t: Tid, new: Policy, now: Tick) -> Option<Tid>
         requires known { t < length self.old.threads }

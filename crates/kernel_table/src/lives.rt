@@ -22,8 +22,8 @@ use words_numbers::{ObjId, SigSet, Tick, Tid};
 use words_script::Call;
 
 impl Table {
-    /// It is runnable in that frame, with a new server where it is sporadic. The answer is the one other thread that stands among no
-    /// waiters and whose execution priority changed; `None` exactly where there is none.
+    /// It is runnable in that frame, with a new server where it is sporadic or strict. The answer is the one other thread that
+    /// stands among no waiters and whose execution priority changed; `None` exactly where there is none.
     #[tactic(auto, using(crate::proofs::Ties::placed))]
     pub fn start(&mut self, t: Tid, mask: SigSet, now: Tick, main: Frame) -> Option<Tid>
         requires known { t < length self.old.threads }

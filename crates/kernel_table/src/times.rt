@@ -106,7 +106,7 @@ pub(crate) fn time_all(threads: &Threads, wheel: &mut Wheel)
 }
 
 impl Table {
-    /// The item of least number that is due at or before now; `None` exactly where none is. Where nothing is due before now that is one
+    /// The item of least number that is due at or before now; `None` exactly where none is. Where nothing is due by now that is one
     /// comparison.
     #[inline(always)]
     pub fn first_due(&mut self, now: Tick) -> Option<Item>

@@ -44,7 +44,7 @@ impl Thread {
         }
     }
 
-    /// Of a sporadic thread the high priority changes.
+    /// Of a sporadic or strict thread the high priority changes.
     pub fn set_priority(&mut self, p: Prio)
         requires { takes_priority self.old.policy p ≡ true }
         ensures { self.new ≡ with_priority p self.old }

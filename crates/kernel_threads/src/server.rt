@@ -128,7 +128,7 @@ impl Thread {
         }
     }
 
-    /// What its server consumed becomes the last pending replenishment.
+    /// What its server consumed becomes the last pending replenishment, or joins it.
     pub fn plan_next(&mut self) -> Planned
         requires { 1 ≤ consumed_in self.old.server }
         ensures value { Some result ≡ option_map planned_of self.old.server }

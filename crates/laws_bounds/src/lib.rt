@@ -1,8 +1,9 @@
 //! What the reader's definition accepts, and what is generated, the kernel can run. There is no code here: three laws, and their proofs.
 //!
-//! Proved: `accepted_scripts_are_runnable`: what `read` accepts keeps to what the kernel asks: at most 256 threads (64 in version 1),
-//! 16 queues and 32 timers, bodies that are not too long and not nested too deeply, calls and actions that name what is declared,
-//! and numbers in range. `generated_scripts_are_runnable`: so does the script of each number.
+//! Proved: `accepted_scripts_are_runnable`: what `read` accepts keeps to what the kernel asks: at most 256 threads, 16 queues and
+//! 32 timers, bodies that are not too long and not nested too deeply, calls and actions that name what is declared, and numbers in
+//! range. `accepted_scripts_of_version_1_are_small`: at most 64 threads. `generated_scripts_are_runnable`: so does the script of
+//! each number.
 #![tactic(auto)]
 
 ghost use Rattle.std.specs.Prelude.{ℕ, ◌≡◌, ◌≤◌, List, length, Ok};

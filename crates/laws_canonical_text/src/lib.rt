@@ -2,7 +2,7 @@
 //!
 //! Proved: `scripts_read_back`: each script that a text is read as is read again from its canonical text.
 //! `scripts_keep_their_statements`: the canonical text says the text's statements in the same order, the quantum's first, and
-//! drops none. Eight more laws say what that text is made of.
+//! drops none. Eleven more laws say what that text is made of.
 //!
 //! Each function stands for a law, which its clause states; none of them does anything when it is called.
 //! Each script that a text is read as is read again from its canonical text, and from that of version 2 as

@@ -2,7 +2,7 @@
 //! folder a part.
 //!
 //! Proved: `states_are_good`: every state of the run of every well formed script is good, also between the items of an instant.
-//! `budgets_are_kept`: in each of them each live sporadic thread keeps the law of the budget. `ticks_have_two_parts`: a tick is
+//! `budgets_are_kept`: in each of them each live sporadic or strict thread keeps the law of the budget. `ticks_have_two_parts`: a tick is
 //! the items of its instant, and then what its dispatch begins. `items_come_one_by_one`, `items_are_of_the_agenda`: the items of
 //! an instant are those that are due, one at a time. `threads_run_in_time`: no thread has run for more ticks than there were.
 //!
@@ -31,7 +31,7 @@ pub fn states_are_good()
     ensures { (script : Script) → IsWellFormed script → RunStaysGood script }
 {}
 
-/// In each of these states the events so far and the server of each live sporadic thread keep the law of the budget.
+/// In each of these states the events so far and the server of each live sporadic or strict thread keep the law of the budget.
 pub fn budgets_are_kept()
     ensures { (script : Script) → IsWellFormed script → RunKeepsBudgets script }
 {}

@@ -2,7 +2,7 @@
 //!
 //! Proved: each call leaves exactly the lists of its definition; `highest` is the head of the highest list.
 //!
-//! Contracts see them as 255 lists of thread numbers, the list of priority p at index p - 1; `specs/Lists.antt` states what
+//! Contracts see them as 255 lists of thread numbers, the list of priority p at index p - 1; `Lists.antt` of `rules_lists` states what
 //! each call does to them. The lists are linked in one block of cells, so a thread is taken out of wherever it stands without a
 //! search, and a bitmap of four words finds the highest list that is not empty. No call after `open` takes memory.
 #![tactic(auto)]

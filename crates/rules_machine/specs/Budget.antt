@@ -197,7 +197,7 @@ pub record KeepsAccount (s : ServerState) (account : List ServerEvent) : Type 0 
   pub as_expected : map replenishment_in (plans_in account) ≡ expected_plans s.params.period account
   pub not_empty : All (λ (p : Plan). 1 ≤ p.amount) (plans_in account)
 
--- a live sporadic thread has a server
+-- a live sporadic or strict thread has a server
 abbrev pub KeepsServer : Option ServerState → List ServerEvent → Type 0
 KeepsServer None account = ⊥
 KeepsServer (Some s) account = KeepsAccount s account
@@ -207,7 +207,7 @@ module _ {P : Type 0} (bodies : Bodies P) (start : Machine P) where
   abbrev pub account_after : ℕ → ℕ → ℕ → List ServerEvent
   account_after t n k = all_recorded t (turn_after bodies start n k).events (account bodies t start n)
 
-  -- the law after n ticks of a run from an opening state, and k items of that instant, of each live sporadic thread
+  -- the law after n ticks of a run from an opening state, and k items of that instant, of each live sporadic or strict thread
   pub record KeepsBudgets (n k : ℕ) : Type 0 where
     pub each : (t : ℕ) → lives (after_items bodies start n k) t ≡ true → is_sporadic (thread_at (after_items bodies start n k) t).policy ≡ true →
         KeepsServer (thread_at (after_items bodies start n k) t).server (account_after t n k)

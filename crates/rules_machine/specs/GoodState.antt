@@ -86,7 +86,7 @@ pub record ServerIsRight {P : Type 0} (m : Machine P) (t : ℕ) (s : ServerState
   pub activated : s.activation ≤ m.now
   pub consuming : 1 ≤ s.consumed → ConsumesInTime m t s
 
--- exactly the live sporadic threads have servers
+-- exactly the live sporadic and strict threads have servers
 pub record ServersAreRight {P : Type 0} (m : Machine P) : Type 0 where
   pub having : (t : ℕ) → is_some (thread_at m t).server ≡ (lives m t && is_sporadic (thread_at m t).policy)
   pub parameters : (t : ℕ) → HasParameters (thread_at m t).policy (thread_at m t).server

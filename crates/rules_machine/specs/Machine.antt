@@ -46,7 +46,7 @@ events script n = (run script n).events
 abbrev pub names_of : Script → List (List ℕ)
 names_of script = map (λ (d : ThreadDecl). d.name) (threads_of script)
 
--- the budget of a live sporadic thread
+-- the budget of a live sporadic or strict thread
 abbrev pub budget_of : ServerState → BudgetView
 budget_of s = record { high = s.high_total; init = s.params.budget; refilled = s.refilled_total; capacity = s.capacity }
 

@@ -5,8 +5,8 @@
 //! line that is printed of names that are names and numbers up to 3 * 10^18.
 //!
 //! [`Limited`] holds the due trace as far as it matters, [`first_difference`] finds the line, and [`read_line`] reads it.
-//! [`divide`] splits a script from the trace behind it, and [`compare`] tells of the line that differs. No other call but [`Limited::open`] takes
-//! memory.
+//! [`divide`] splits a script from the trace behind it, and [`compare`] tells of the line that differs. No call takes memory
+//! but [`Limited::open`] and [`KnownRoom::open`].
 #![tactic(auto)]
 
 mod comparison;

@@ -14,9 +14,9 @@ pub enum Event {
     Return(Tid, CallName, Res, u64),
     /// A thread took a signal, with its code and its value.
     Deliver(Tid, u8, SigCode, u64),
-    /// The activation time of a sporadic thread is now, with this capacity in ticks.
+    /// The activation time of a sporadic or strict thread is now, with this capacity in ticks.
     Activate(Tid, u64),
-    /// A sporadic thread used up its capacity.
+    /// A sporadic or strict thread used up its capacity.
     Exhaust(Tid),
     /// A replenishment was planned: its amount in ticks, and when it is due.
     Plan(Tid, u64, Tick),

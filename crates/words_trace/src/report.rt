@@ -9,7 +9,7 @@ pub struct Report {
     pub budget: Option<BudgetView>,
 }
 
-/// The budget of a sporadic server, in ticks. `high` equals `init` plus `refilled` minus `capacity`.
+/// The budget of a sporadic or strict server, in ticks. `high` equals `init` plus `refilled` minus `capacity`.
 #[derive(Clone, Copy)]
 pub struct BudgetView {
     /// How many ticks the thread has run at its high priority.
