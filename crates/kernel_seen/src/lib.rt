@@ -15,9 +15,11 @@ mod few;
 mod kept_line;
 mod objects_seen;
 mod seen;
+mod seen_facts;
 
-pub use fact_seen::{FactSeen, SeenFacts, is_list, is_of_thread, see_thread};
+pub use fact_seen::{FactSeen, is_list, is_of_thread, see_thread};
 pub use few::{FewMessages, FewThreads, SmallMessage, see_list};
 pub use kept_line::{FewWaiters, is_line, see_line};
 pub use objects_seen::{is_of_object, see_object};
 pub use seen::Seen;
+pub use seen_facts::SeenFacts;

@@ -1,6 +1,6 @@
 use Rattle.std.proofs.Common.{arith}
 use Rattle.kernel_seen.proofs.ToldBits.{quiet_more}
-use Rattle.kernel_seen.proofs.fact_seen.SeenFacts.quiet_in_words.Goals as goal
+use Rattle.kernel_seen.proofs.seen_facts.SeenFacts.quiet_in_words.Goals as goal
 
 pub loop-quiet-preserved : goal.loop-quiet-preserved
 loop-quiet-preserved c = record {

@@ -1,7 +1,7 @@
 use Rattle.std.proofs.Common.{◌≡◌, ◌<◌, ◌≤◌, ◌+◌, ◌-◌, false, ℕ}
 use Rattle.std.specs.Prelude.{◌%◌}
 use Rattle.kernel_seen.specs.FactSeen.{may_tell}
-use Rattle.kernel_seen.proofs.fact_seen.SeenFacts.quiet_in_words.Given as goal
+use Rattle.kernel_seen.proofs.seen_facts.SeenFacts.quiet_in_words.Given as goal
 
 abbrev pub invariant-loop-quiet : goal.invariant-loop-quiet
 invariant-loop-quiet l = record {

@@ -1,7 +1,7 @@
 use Rattle.std.proofs.Common.{ap, arith, length}
 use Rattle.kernel_seen.specs.FactSeen.{Memory}
 use Rattle.kernel_seen.proofs.ToldBits.{beyond_told}
-use Rattle.kernel_seen.proofs.fact_seen.SeenFacts.note_told.Goals as goal
+use Rattle.kernel_seen.proofs.seen_facts.SeenFacts.note_told.Goals as goal
 
 pub returns-else-index-len-clause-told : goal.returns-else-index-len-clause-told
 returns-else-index-len-clause-told c =

@@ -1,5 +1,5 @@
 use Rattle.kernel_seen.proofs.ToldBits.{quiet_more}
-use Rattle.kernel_seen.proofs.fact_seen.SeenFacts.quiet_from.Goals as goal
+use Rattle.kernel_seen.proofs.seen_facts.SeenFacts.quiet_from.Goals as goal
 
 pub returns-clause-quiet : goal.returns-clause-quiet
 returns-clause-quiet c =
