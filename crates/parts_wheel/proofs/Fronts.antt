@@ -1,10 +1,7 @@
 -- What is due first, before and after a change.
-use Rattle.std.proofs.Common.{◌≡◌, inl, inr, ⊎_elim, ℕ, ◌*◌, ◌%◌, ◌^◌, ◌<◌, ◌≤◌, Bool, true, false, Option, Some, None, List, length, set, refl, sym, subst, ◌∙◌, arith}
-use Rattle.std.specs.Int.Bits.{bit_or, or_zero_r}
-use Rattle.std.proofs.lemmas.Nat.{le_or_r}
-use mir.Val.{bool_byte}
+use Rattle.std.proofs.Common.{◌≡◌, inl, inr, ⊎_elim, ℕ, ◌*◌, ◌^◌, ◌<◌, ◌≤◌, Option, Some, None, List, length, set, sym, subst, ◌∙◌, arith}
 use Rattle.parts_wheel.specs.Dues.{due_of}
-use Rattle.parts_wheel.specs.Slots.{IsEarly, IsLeastLater, IsLone}
+use Rattle.parts_wheel.specs.Slots.{IsEarly, IsLeastLater, IsFirstAt}
 use Rattle.parts_links.proofs.Chains.{equal}
 use Rattle.parts_wheel.proofs.Holding.{set_same, set_other, apart_from}
 
@@ -40,11 +37,11 @@ early_armed dues id d early less before le here l i e h = ⊎_elim
     (λ other. let under = before i e (sym (set_other id i (Some d) dues other) ∙ h) in omega (arith, under, le))
     (equal i id)
 
-pub front_led : (base id d least : ℕ) (dues : List (Option ℕ)) → IsLeastLater base dues least → base < d → d < least → id < length dues → IsLone (set dues id (Some d)) d id
+pub front_led : (base id d least : ℕ) (dues : List (Option ℕ)) → IsLeastLater base dues least → base < d → d < least → id < length dues → IsFirstAt (set dues id (Some d)) d id
 front_led base id d least dues is lt less inside l = (
   set_same id (Some d) dues inside,
   λ i due. ⊎_elim
-      (λ same. same)
+      (λ same. omega (arith, same))
       (λ other. absurd (let h = is.least i d (sym (set_other id i (Some d) dues other) ∙ due) lt in omega (arith, h, less)))
       (equal i id),
 )
@@ -53,18 +50,23 @@ front_led base id d least dues is lt less inside l = (
 pub before_least : (base d early least : ℕ) (dues : List (Option ℕ)) → IsLeastLater base dues least → IsEarly dues early → d < early → d ≤ 3 * 10 ^ 18 → d < least
 before_least base d early least dues is none less small = ⊎_elim (λ never. omega (arith, never, small)) (λ h. let l = none h.0 least h.1 in omega (arith, l, less)) is.holds
 
--- an item that alone is due then stays so where another falls due later
-pub lone_stays : (id d least n : ℕ) (dues : List (Option ℕ)) → IsLone dues least n → least < d → due_of id dues ≡ None → id < length dues → IsLone (set dues id (Some d)) least n
-lone_stays id d least n dues alone less none inside l = let k = alone l in (
+-- the first item that is due then stays so where another falls due later, or has a greater number
+pub first_stays : (id d least n : ℕ) (dues : List (Option ℕ)) → IsFirstAt dues least n → (d ≡ least → n ≤ id) → due_of id dues ≡ None → id < length dues → IsFirstAt (set dues id (Some d)) least n
+first_stays id d least n dues first behind none inside l = let k = first l in (
   set_other id n (Some d) dues (apart_from dues id n least none k.0) ∙ k.0,
   λ i due. ⊎_elim
-      (λ same. absurd (let s : Some d ≡ Some least = sym (set_same id (Some d) dues inside) ∙ subst (λ m. due_of m (set dues id (Some d)) ≡ Some least) same due in
-      let de : d ≡ least = cc in omega (arith, de, less)))
+      (λ same. let s : Some d ≡ Some least = sym (set_same id (Some d) dues inside) ∙ subst (λ m. due_of m (set dues id (Some d)) ≡ Some least) same due in
+      let de : d ≡ least = cc in (let h = behind de in omega (arith, h, same)))
       (λ other. k.1 i (sym (set_other id i (Some d) dues other) ∙ due))
       (equal i id),
 )
 
--- a number with its highest bit set is no item's
-pub number_kept : (n : ℕ) (mark : Bool) → bit_or n (bool_byte mark * 2 ^ 31 % 2 ^ 32) < 1024 → (mark ≡ false) × (bit_or n (bool_byte mark * 2 ^ 31 % 2 ^ 32) ≡ n)
-number_kept n true l = absurd (let high = le_or_r n (2 ^ 31) in omega (arith, high, l))
-number_kept n false l = (refl, or_zero_r n)
+-- an item that falls due then, too, and has a lower number is the first
+pub first_joins : (id least n : ℕ) (dues : List (Option ℕ)) → IsFirstAt dues least n → n < 1024 → id < n → id < length dues → IsFirstAt (set dues id (Some least)) least id
+first_joins id least n dues first known lower inside l = (
+  set_same id (Some least) dues inside,
+  λ i due. ⊎_elim
+      (λ same. omega (arith, same))
+      (λ other. let h = (first known).1 i (sym (set_other id i (Some least) dues other) ∙ due) in omega (arith, h, lower))
+      (equal i id),
+)

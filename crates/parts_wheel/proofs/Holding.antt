@@ -1,5 +1,5 @@
 -- Items that are armed and disarmed, and what the slots tell of due ticks.
-use Rattle.std.proofs.Common.{ltb-false, ◌≡◌, ◌≢◌, inl, inr, ⊎_elim, ℕ, zero, suc, ◌+◌, ◌*◌, ◌/◌, ◌%◌, ◌^◌, ◌-◌, ◌<◌, ◌≤◌, true, false, nat_lt, replicate, Option, Some, None, IfSome, MatchOption, List, [], ◌∷◌, length, get_or, set, refl, sym, ap, subst, ◌∙◌, arith}
+use Rattle.std.proofs.Common.{ltb-false, ◌≡◌, ◌≢◌, inl, inr, ⊎_elim, ℕ, zero, suc, ◌+◌, ◌*◌, ◌/◌, ◌^◌, ◌-◌, ◌<◌, ◌≤◌, true, false, nat_lt, replicate, Option, Some, None, MatchOption, List, [], ◌∷◌, length, get_or, set, refl, sym, ap, subst, ◌∙◌, arith}
 use borrow.Author.Tests.{clash}
 use Rattle.std.proofs.lemmas.List.{get_or_default, get_or-set_same, get_or-set_other}
 use Rattle.std.proofs.lemmas.Bool.Decides.{nat_tests}
@@ -7,13 +7,13 @@ use Rattle.parts_links.specs.Links.{Lists, list_at, stands_in, on_a_list, stands
 use Rattle.parts_wheel.proofs.Order.{lt_or}
 use Rattle.parts_wheel.specs.Bits.{is_set, ChangesBit, IsLowestSet, NoneIsSet}
 use Rattle.parts_wheel.specs.Dues.{due_of, NoneIsDue, IsFirstDue}
-use Rattle.parts_wheel.specs.Slots.{list_for, AreMarked, AreFiled, AreSmall, IsEarly, IsLeastLater, IsLeastNode, IsLeastOf, IsLone, IsLoneOf, IsOnly}
+use Rattle.parts_wheel.specs.Slots.{list_for, AreMarked, AreFiled, AreSmall, IsLeastLater, IsLeastNode, IsLeastOf, IsFirstAt, IsLoneOf}
 use Rattle.parts_wheel.specs.Moves.{IsFiled, IsTaken, with_last, AreEmptyBelow, AreToRefile, AreRefiling}
 use Rattle.parts_wheel.specs.Held.{AreHeld}
 use Rattle.parts_links.proofs.Chains.{decide, equal}
 use Rattle.parts_links.proofs.Standing.{off_all, on_at, put_stays, put_there, put_back}
 use Rattle.parts_wheel.proofs.Stands.{some_length, taken_stays, taken_back, none_in}
-use Rattle.parts_wheel.proofs.Filing.{none_some, armed_inside, comes_later, has_gone, near_list, near_tick, sides, to_refile, advanced}
+use Rattle.parts_wheel.proofs.Filing.{none_some, armed_inside, comes_later, has_gone, near_tick, sides, to_refile, advanced}
 
 -- ---- due ticks after a change
 
@@ -219,20 +219,25 @@ least_at_tick base dues lists occupied passed list filed marked low near =
       holds = inr (x.0, x.1, o.1 ∙ ap Some (near_tick base o.0 list near o.3));
     }
 
--- ---- which item alone is due next
+-- ---- which item is the first of those that are due next
 
-pub lone_at : (base list tick n : ℕ) (dues : List (Option ℕ)) (lists : List (List ℕ)) (passed : List ℕ) → AreFiled base dues lists passed → IsLoneOf dues (list_at lists list) tick n → IsLone dues tick n
-lone_at base list tick n dues lists passed filed of l =
+pub lone_first : (base list tick n : ℕ) (dues : List (Option ℕ)) (lists : List (List ℕ)) (passed : List ℕ) → AreFiled base dues lists passed → IsLoneOf dues (list_at lists list) tick n → IsFirstAt dues tick n
+lone_first base list tick n dues lists passed filed of l =
     let k = of l in let o = filed.only_later n list k.0 in
     let same = same_due dues n o.0 tick o.1 k.1 in
     let at : list ≡ list_for base tick = subst (λ t. list ≡ list_for base t) same o.3 in
     let after : base < tick = omega (arith, o.2, same) in
-    (k.1, λ i due. k.2 i (subst (λ m. stands_at i m lists ≡ true) (sym at) (filed.later i tick due after)) due)
+    (k.1, λ i due. let e = k.2 i (subst (λ m. stands_at i m lists ≡ true) (sym at) (filed.later i tick due after)) due in omega (arith, e))
 
-pub lone_at_tick : (base list n : ℕ) (dues : List (Option ℕ)) (lists : List (List ℕ)) (passed : List ℕ) → AreFiled base dues lists passed → list < 2048 → IsOnly (list_at lists list) n
-    → IsLoneOf dues (list_at lists list) (base / 2048 * 2048 + list) n
-lone_at_tick base list n dues lists passed filed near only l =
-    let k = only l in let o = filed.only_later n list k.0 in (k.0, o.1 ∙ ap Some (near_tick base o.0 list near o.3), λ i h due. k.1 i h)
+-- a list of the lowest level is for one tick
+pub first_at_tick : (base list n : ℕ) (dues : List (Option ℕ)) (lists : List (List ℕ)) (passed : List ℕ) → AreFiled base dues lists passed → list < 2048
+    → (n < 1024 → IsLeastNode (list_at lists list) n) → IsFirstAt dues (base / 2048 * 2048 + list) n
+first_at_tick base list n dues lists passed filed near least l =
+    let k = least l in let o = filed.only_later n list k.stands in
+    let t = near_tick base o.0 list near o.3 in
+    let at : list ≡ list_for base (base / 2048 * 2048 + list) = subst (λ d. list ≡ list_for base d) t o.3 in
+    let after : base < base / 2048 * 2048 + list = omega (arith, o.2, t) in
+    (o.1 ∙ ap Some t, λ i due. k.least i (subst (λ m. stands_at i m lists ≡ true) (sym at) (filed.later i (base / 2048 * 2048 + list) due after)))
 
 -- ---- a wheel goes on to its least later due tick
 
@@ -304,43 +309,3 @@ module _ (base id to : ℕ) (dues : List (Option ℕ)) (lists mid new : List (Li
   pub next_left : (list : ℕ) → list ≡ list_for base to → AreRefiling list to (set dues id None) mid new passed q → list_at new list ≡ [] → AreFiled to (set dues id None) new q
   next_left list at done all = advanced base to (set dues id None) mid new passed q next_after next_small next_filed next_empty
       (subst (λ m. AreRefiling m to (set dues id None) mid new passed q) at done) (subst (λ m. list_at new m ≡ []) at all)
-
--- ---- the first of the items that are due next
-
-first_of_list : (base to i : ℕ) (dues : List (Option ℕ)) (lists : List (List ℕ)) (passed : List ℕ) → AreFiled base dues lists passed → to / 2048 ≡ base / 2048 → base < to → IsEarly dues to
-    → IsLeastNode (list_at lists (to % 2048)) i → IsFirstDue to dues i
-first_of_list base to i dues lists passed filed near after early least =
-    let o = filed.only_later i (to % 2048) least.stands in
-    let t = near_tick base o.0 (to % 2048) (omega arith) o.3 in
-    let same : o.0 ≡ to = omega (arith, t, near) in
-    record {
-      inside = armed_inside dues i o.0 o.1;
-      due = (o.0, o.1, omega (arith, same));
-      first = λ j d l due.
-          let low = early j d due in
-          ⊎_elim
-          (λ lt. lt)
-          (λ le. let is : d ≡ to = omega (arith, low, le) in
-          let h = subst (λ k. stands_at j k lists ≡ true) (near_list base to near) (filed.later j to (due ∙ ap Some is) after) in
-          let m = least.least j h in absurd (omega (arith, m, l)))
-          (lt_or to d);
-    }
-
-pub first_if_few : (base to : ℕ) (dues : List (Option ℕ)) (lists : List (List ℕ)) (passed : List ℕ) (o : Option ℕ) → AreFiled base dues lists passed → to / 2048 ≡ base / 2048 → IsLeastLater base dues to
-    → to ≤ 3 * 10 ^ 18 → IsEarly dues to → IfSome o (λ n. IsLeastNode (list_at lists (to % 2048)) n) → IfSome o (λ i. IsFirstDue to dues i)
-first_if_few base to dues lists passed None filed near next most early none = none
-first_if_few base to dues lists passed (Some n) filed near next most early least = first_of_list base to n dues lists passed filed near (comes_next base to dues next most) early least
-
--- ---- another item is due next with one that leaves
-
-pub next_stays : (base id d i : ℕ) (dues : List (Option ℕ)) (lists new : List (List ℕ)) (passed : List ℕ) → AreFiled base dues lists passed → due_of id dues ≡ Some d → IsLeastLater base dues d
-    → d / 2048 ≡ base / 2048 → base < d → IsTaken id lists new → stands_at i (d % 2048) new ≡ true → IsLeastLater base (set dues id None) d
-next_stays base id d i dues lists new passed filed due is near after taken stands =
-    let left = disarmed_later base id d dues lists new passed passed filed due after taken in
-    let o = left.only_later i (d % 2048) stands in
-    let t = near_tick base o.0 (d % 2048) (omega arith) o.3 in
-    let same : o.0 ≡ d = omega (arith, t, near) in
-    record {
-      least = λ j e h l. is.least j e (before base id d dues lists new passed passed filed due j e h) l;
-      holds = inr (i, o.1 ∙ ap Some same, after);
-    }

@@ -29,8 +29,8 @@ module _ (slots new : Placed) (id base last : ℕ) (now : Dues) (left : new ≡ 
   pub left_early : (early : ℕ) → IsEarly slots.dues early → IsEarly new.dues early
   left_early early before i d h = before i d (was_due i d h)
 
-  pub left_cached : (least early lone : ℕ) → IsFront new least early lone → base ≤ last → AreSmall slots.dues → IsCached new least early lone last
-  left_cached least early lone front behind small = record {
+  pub left_cached : (least early first : ℕ) → IsFront new least early first → base ≤ last → AreSmall slots.dues → IsCached new least early first last
+  left_cached least early first front behind small = record {
     front = front;
     behind = subst (λ b. b ≤ last) (sym (ap (λ (s : Placed). s.base) left)) behind;
     small = λ i d h. small i d (was_due i d h);
@@ -40,8 +40,8 @@ module _ (slots new : Placed) (id base last : ℕ) (now : Dues) (left : new ≡ 
   left_view = ap (λ (ds : List (Option ℕ)). record { dues = ds; last = last }) dues_left ∙ ap (λ (n : Dues). record { dues = set n.dues id None; last = n.last }) is
 
   -- the item was not among those that are due first
-  pub left_front : (d least early lone : ℕ) → IsFront slots least early lone → base ≡ slots.base → due_of id now.dues ≡ Some d → d ≢ least → IsFront new least early lone
-  left_front d least early lone front same due apart =
+  pub left_front : (d least early first : ℕ) → IsFront slots least early first → base ≡ slots.base → due_of id now.dues ≡ Some d → d ≢ least → IsFront new least early first
+  left_front d least early first front same due apart =
       let due_then : due_of id slots.dues ≡ Some d = subst (λ (n : Dues). due_of id n.dues ≡ Some d) (sym is) due in
       let stays : (i : ℕ) → due_of i slots.dues ≡ Some least → due_of i new.dues ≡ Some least =
       λ i h. subst (λ ds. due_of i ds ≡ Some least) (sym dues_left) (due_after slots.dues id i d least due_then apart h) in
@@ -52,6 +52,6 @@ module _ (slots new : Placed) (id base last : ℕ) (now : Dues) (left : new ≡ 
           holds = ⊎_elim (λ none. inl none) (λ h. inr (h.0, stays h.0 h.1, subst (λ b. b < least) (sym stands) h.2)) front.later.holds;
         };
         none_before = left_early early front.none_before;
-        alone = λ l. (stays lone (front.alone l).0, λ i h. (front.alone l).1 i (was_due i least h));
-        first = front.first;
+        lowest = λ l. (stays first (front.lowest l).0, λ i h. (front.lowest l).1 i (was_due i least h));
+        at_once = front.at_once;
       }

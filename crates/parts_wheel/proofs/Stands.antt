@@ -60,13 +60,14 @@ pub some_head : (xs : List ℕ) → is_some (slice_get xs 0) ≡ true → nat_lt
 some_head [] h = cc
 some_head (x ∷ xs) h = grind (arith, nat_tests, common_steps)
 
+-- a list has a first node exactly where it is not empty
+pub has_first : (xs : List ℕ) → is_some (slice_get xs 0) ≡ nat_lt 0 (length xs)
+has_first [] = refl
+has_first (x ∷ xs) = sym (some_head (x ∷ xs) refl)
+
 pub none_in : (xs : List ℕ) → ((i : ℕ) → stands_in i xs ≡ true → ⊥) → xs ≡ []
 none_in [] h = refl
 none_in (x ∷ xs) h = absurd (h x (grind (arith, nat_tests)))
-
--- the list of a node that stood there alone
-pub lone_taken : (n k : ℕ) (old new : List (List ℕ)) → IsTaken n old new → ((i : ℕ) → stands_at i k old ≡ true → i ≡ n) → list_at new k ≡ []
-lone_taken n k old new t lone = none_in (list_at new k) (λ i h. let b = taken_back n i k old new t h in b.1 (lone i b.0))
 
 pub length_taken : (n : ℕ) (old new : List (List ℕ)) → IsTaken n old new → length new ≡ length old
 length_taken n old new t = ap length t.lists ∙ length_without n old

@@ -4,9 +4,7 @@ use borrow.Author.Tests.{clash}
 use Rattle.std.proofs.lemmas.Bool.Decides.{nat_tests}
 use Rattle.parts_links.specs.Links.{stands_in, follower, AreDistinct}
 use Rattle.parts_links.specs.Walks.{rest_of}
-use Rattle.std.specs.List.{last_or}
-use Rattle.parts_links.proofs.Chains.{stands_first, stands_later}
-use Rattle.parts_links.proofs.Walks.{rest_first, step, apart_stands}
+use Rattle.parts_links.proofs.Walks.{rest_first, step}
 use Rattle.parts_wheel.specs.Dues.{due_of}
 use Rattle.parts_wheel.specs.Slots.{IsSooner, IsLeastNode}
 use Rattle.parts_links.proofs.Chains.{equal}
@@ -70,16 +68,6 @@ walk_on dues items at o next n e tick lone now sole distinct is stands follows d
           r)
           step_to;
     }
-
-last_stands : (n x : ℕ) (xs : List ℕ) → last_or (Some x) xs ≡ Some n → stands_in n (x ∷ xs) ≡ true
-last_stands n x [] e = let same : x ≡ n = cc in subst (λ y. stands_in y (x ∷ []) ≡ true) same (stands_first x [])
-last_stands n x (y ∷ ys) e = stands_later n x (y ∷ ys) (last_stands n y ys e)
-
--- a node that is the first of a list and its last stands alone
-pub alone_at_ends : (n : ℕ) (xs : List ℕ) → AreDistinct xs → slice_get xs 0 ≡ Some n → last_or None xs ≡ Some n → (i : ℕ) → stands_in i xs ≡ true → i ≡ n
-alone_at_ends n [] d head last i h = cc
-alone_at_ends n (x ∷ []) d head last i h = let same : n ≡ x = cc in grind (arith, nat_tests)
-alone_at_ends n (x ∷ y ∷ xs) d head last i h = let same : n ≡ x = cc in absurd (apart_stands x n (y ∷ xs) d.0 (last_stands n y xs last) same)
 
 pub not_some : (o : Option ℕ) → is_some o ≡ false → o ≡ None
 not_some None h = refl

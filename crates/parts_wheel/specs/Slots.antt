@@ -42,17 +42,13 @@ pub record IsLeastOf (dues : List (Option ℕ)) (items : List ℕ) (tick : ℕ) 
 abbrev pub IsEarly : List (Option ℕ) → ℕ → Type 0
 IsEarly dues tick = (i d : ℕ) → due_of i dues ≡ Some d → tick ≤ d
 
--- where the number is one of an item, that item is due then, and no other is
-abbrev pub IsLone : List (Option ℕ) → ℕ → ℕ → Type 0
-IsLone dues tick n = n < 1024 → (due_of n dues ≡ Some tick) × ((i : ℕ) → due_of i dues ≡ Some tick → i ≡ n)
+-- where the number is one of an item, that item is due then, and none with a lower number is
+abbrev pub IsFirstAt : List (Option ℕ) → ℕ → ℕ → Type 0
+IsFirstAt dues tick n = n < 1024 → (due_of n dues ≡ Some tick) × ((i : ℕ) → due_of i dues ≡ Some tick → n ≤ i)
 
--- the same, of the items of one list
+-- where the number is one of an item of the list, that item alone of them is due then
 abbrev pub IsLoneOf : List (Option ℕ) → List ℕ → ℕ → ℕ → Type 0
 IsLoneOf dues items tick n = n < 1024 → (stands_in n items ≡ true) × (due_of n dues ≡ Some tick) × ((i : ℕ) → stands_in i items ≡ true → due_of i dues ≡ Some tick → i ≡ n)
-
--- where the number is one of a node, the list holds that node and no other
-abbrev pub IsOnly : List ℕ → ℕ → Type 0
-IsOnly items n = n < 1024 → (stands_in n items ≡ true) × ((i : ℕ) → stands_in i items ≡ true → i ≡ n)
 
 -- the node stands in the list, and none with a lower number does
 pub record IsLeastNode (items : List ℕ) (n : ℕ) : Type 0 where
@@ -64,15 +60,21 @@ abbrev pub IsSooner : ℕ → ℕ → ℕ → Option ℕ → ℕ → ℕ → Typ
 IsSooner tick lone node due now sole = MatchOption due ((now ≡ tick) × (sole ≡ lone))
     (λ d. ((d < tick) × (now ≡ d) × (sole ≡ node)) ⊎ (((d ≡ tick) × (now ≡ tick) × (sole ≡ 2 ^ 32 - 1)) ⊎ ((tick < d) × (now ≡ tick) × (sole ≡ lone))))
 
--- the least later due tick, a tick before which nothing is due, and the number of the item that alone is due then
-pub record IsFront (slots : Placed) (least early lone : ℕ) : Type 0 where
+-- which item is first once one more falls due: that one, where it is due before the others, or with them and by a lower number; else the one
+-- that was, where it was known
+abbrev pub IsFirstWith : ℕ → ℕ → ℕ → ℕ → ℕ → Type 0
+IsFirstWith early first id tick now = ((tick < early) × (now ≡ id))
+    ⊎ (((tick ≡ early) × (id < first) × (first < 1024) × (now ≡ id)) ⊎ ((early ≤ tick) × (now ≡ first) × (first < 1024 → tick ≡ early → first ≤ id)))
+
+-- the least later due tick, a tick before which nothing is due, and the least number of an item that is due at both, or no item's
+pub record IsFront (slots : Placed) (least early first : ℕ) : Type 0 where
   pub later : IsLeastLater slots.base slots.dues least
   pub none_before : IsEarly slots.dues early
-  pub alone : IsLone slots.dues least lone
-  pub first : lone < 1024 → early ≡ least
+  pub lowest : IsFirstAt slots.dues least first
+  pub at_once : first < 1024 → early ≡ least
 
 -- what a wheel keeps beside its slots
-pub record IsCached (slots : Placed) (least early lone last : ℕ) : Type 0 where
-  pub front : IsFront slots least early lone
+pub record IsCached (slots : Placed) (least early first last : ℕ) : Type 0 where
+  pub front : IsFront slots least early first
   pub behind : slots.base ≤ last
   pub small : AreSmall slots.dues

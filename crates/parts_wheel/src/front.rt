@@ -1,7 +1,7 @@
 //! What is due first.
 ghost use Rattle.std.specs.Prelude.{◌≡◌, ◌≤◌, ◌<◌, ◌-◌, ◌*◌, ◌/◌, ◌^◌, ℕ, None, Some, true, length, slice_set};
 ghost use Rattle.parts_wheel.specs.Dues.{due_of};
-ghost use Rattle.parts_wheel.specs.Slots.{Placed, IsLeastLater, IsLone, IsEarly, IsFront};
+ghost use Rattle.parts_wheel.specs.Slots.{Placed, IsLeastLater, IsFirstAt, IsFirstWith, IsEarly, IsFront};
 
 use crate::slots::Slots;
 use crate::walks::{NO_ITEM, Next};
@@ -13,40 +13,40 @@ pub(crate) struct Front {
     pub(crate) least: u64,
     // nothing is due before that tick
     pub(crate) early: u64,
-    // the number of the item that alone is due then, and later than the slots' tick, or no item's
-    pub(crate) lone: u32,
+    // the least number of an item that is due then, where that is later than the slots' tick, or no item's where it is not known
+    pub(crate) first: u32,
 }
 
 impl Front {
     /// Nothing is due.
     pub(crate) fn open() -> Front
-        ensures { (result.least ≡ 2 ^ 64 - 1) × (result.early ≡ 2 ^ 64 - 1) × (result.lone ≡ 2 ^ 32 - 1) }
+        ensures { (result.least ≡ 2 ^ 64 - 1) × (result.early ≡ 2 ^ 64 - 1) × (result.first ≡ 2 ^ 32 - 1) }
     {
         Front {
             least: u64::MAX,
             early: u64::MAX,
-            lone: NO_ITEM,
+            first: NO_ITEM,
         }
     }
 
     /// From what is due next after the tick of the slots, where nothing is due before `early`.
     #[inline(always)]
     pub(crate) fn of(slots: &Slots, next: Next, early: u64) -> Front
-        requires next { IsLeastLater slots.now.base slots.now.dues next.tick × IsLone slots.now.dues next.tick next.lone }
+        requires next { IsLeastLater slots.now.base slots.now.dues next.tick × IsFirstAt slots.now.dues next.tick next.first }
         requires early { IsEarly slots.now.dues early }
-        ensures { IsFront slots.now result.least result.early result.lone }
+        ensures { IsFront slots.now result.least result.early result.first }
     {
         if slots.none_passed() {
             Front {
                 least: next.tick,
                 early: next.tick,
-                lone: next.lone,
+                first: next.first,
             }
         } else {
             Front {
                 least: next.tick,
                 early,
-                lone: NO_ITEM,
+                first: NO_ITEM,
             }
         }
     }
@@ -55,7 +55,7 @@ impl Front {
     #[inline(always)]
     pub(crate) fn look(&mut self, slots: &Slots)
         requires { IsEarly slots.now.dues self.old.early }
-        ensures { IsFront slots.now self.new.least self.new.early self.new.lone }
+        ensures { IsFront slots.now self.new.least self.new.early self.new.first }
     {
         match slots.next_near() {
             Some(next) => *self = Front::of(slots, next, self.early),
@@ -75,34 +75,23 @@ impl Front {
     #[inline(always)]
     pub(crate) fn go_on(&mut self, slots: &Slots)
         requires { IsEarly slots.now.dues self.old.early × (slots.now.base < self.old.early) }
-        ensures { IsFront slots.now self.new.least self.new.early self.new.lone }
+        ensures { IsFront slots.now self.new.least self.new.early self.new.first }
     {
         match slots.next_near() {
             Some(next) => {
                 self.least = next.tick;
                 self.early = next.tick;
-                self.lone = next.lone;
+                self.first = next.first;
             }
             None => self.look_in_full(slots),
         }
-    }
-
-    /// The same where none has passed, and what is due next, in the lowest level, is as it was.
-    #[inline(always)]
-    pub(crate) fn look_near(&mut self, slots: &Slots)
-        requires least { IsLeastLater slots.now.base slots.now.dues self.old.least }
-        requires near { self.old.least / 2048 ≡ slots.now.base / 2048 }
-        requires early { IsEarly slots.now.dues self.old.early × (self.old.early ≡ self.old.least) }
-        ensures { IsFront slots.now self.new.least self.new.early self.new.lone }
-    {
-        self.lone = slots.lone_at(self.least);
     }
 
     // The same, whatever is due next.
     #[inline(never)]
     fn look_in_full(&mut self, slots: &Slots)
         requires { IsEarly slots.now.dues self.old.early }
-        ensures { IsFront slots.now self.new.least self.new.early self.new.lone }
+        ensures { IsFront slots.now self.new.least self.new.early self.new.first }
     {
         *self = Front::of(slots, slots.least_far(self.early), self.early);
     }
@@ -110,12 +99,12 @@ impl Front {
     /// Once an item that was not armed falls due at that tick, which is no later than that of the slots.
     #[inline(always)]
     pub(crate) fn with_passed(self, tick: u64) -> Front
-        ensures { (slots : Placed) → (id : ℕ) → tick ≤ slots.base → (id < length slots.dues) × (due_of id slots.dues ≡ None) → IsFront slots self.least self.early self.lone → IsFront (record slots { dues = slice_set slots.dues id (Some tick) }) result.least result.early result.lone }
+        ensures { (slots : Placed) → (id : ℕ) → tick ≤ slots.base → (id < length slots.dues) × (due_of id slots.dues ≡ None) → IsFront slots self.least self.early self.first → IsFront (record slots { dues = slice_set slots.dues id (Some tick) }) result.least result.early result.first }
     {
         let early = self.early.min(tick);
         Front {
             early,
-            lone: NO_ITEM,
+            first: NO_ITEM,
             ..self
         }
     }
@@ -124,15 +113,26 @@ impl Front {
     #[inline(always)]
     pub(crate) fn with_later(self, id: u32, tick: u64) -> Front
         requires { tick ≤ 3 * 10 ^ 18 }
-        ensures { (slots : Placed) → slots.base < tick → (id < length slots.dues) × (due_of id slots.dues ≡ None) → IsFront slots self.least self.early self.lone → IsFront (record slots { dues = slice_set slots.dues id (Some tick) }) result.least result.early result.lone }
+        ensures { (slots : Placed) → slots.base < tick → (id < length slots.dues) × (due_of id slots.dues ≡ None) → IsFront slots self.least self.early self.first → IsFront (record slots { dues = slice_set slots.dues id (Some tick) }) result.least result.early result.first }
     {
-        // no item's number where the tick is no later than the least
-        let kept = self.lone | (((tick <= self.least) as u32) << 31);
-        let lone = if tick < self.early { id } else { kept };
         Front {
             least: self.least.min(tick),
             early: self.early.min(tick),
-            lone,
+            first: self.first_with(id, tick),
         }
+    }
+
+    // Which item is first once one more falls due, later than the tick of the slots.
+    #[inline(always)]
+    fn first_with(&self, id: u32, tick: u64) -> u32
+        ensures { IsFirstWith self.now.early self.now.first id tick result }
+    {
+        if tick < self.early {
+            return id;
+        }
+        if tick == self.early && id < self.first && self.first < 1024 {
+            return id;
+        }
+        self.first
     }
 }

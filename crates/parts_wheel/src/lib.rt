@@ -8,13 +8,13 @@
 //! answers. The wheel stands at a tick that is at most that last `now`. An item that is due later stands on the list of its slot, bits
 //! tell which slots are taken, and an item whose tick has passed is a bit of a set, so that the least
 //! number is found at once. The least later due tick is kept, so that `next` searches no slot, a tick before which nothing is due, so
-//! that `first_due` is one comparison where nothing is, and the item that alone is due then, which `first_due` answers. No call after
+//! that `first_due` is one comparison where nothing is, and the least number of an item that is due then, which `first_due` answers. No call after
 //! `open` takes memory.
 #![tactic(auto)]
 
 ghost use Rattle.std.specs.Prelude.{◌≡◌, ◌≢◌, ◌≤◌, ◌<◌, ◌*◌, ◌^◌, ℕ, None, Some, true, false, length, max, replicate, slice_set, IfOk, MatchOption};
 ghost use Rattle.parts_wheel.specs.Dues.{due_of, NoneIsArmed, IsLeastDue, NoneIsDue, IsFirstDue};
-ghost use Rattle.parts_wheel.specs.Slots.{Placed, IsLeastLater, IsLone, IsEarly, IsFront};
+ghost use Rattle.parts_wheel.specs.Slots.{Placed, IsLeastLater, IsFirstAt, IsEarly, IsFront};
 
 mod bits;
 mod dues;
@@ -48,7 +48,7 @@ impl Model for Wheel {
 
     ghost view = { λ w. record { dues = w.slots.dues; last = w.last } };
 
-    ghost invariant = { λ w. IsCached w.slots w.front.least w.front.early w.front.lone w.last };
+    ghost invariant = { λ w. IsCached w.slots w.front.least w.front.early w.front.first w.last };
 }
 
 /// The slots go on from one due tick to the next, up to now. The answer is what is due next after theirs.
@@ -58,12 +58,12 @@ fn caught_up(slots: &mut Slots, least: u64, now: u64) -> Next
     ensures dues { slots.new.dues ≡ slots.old.dues }
     ensures base { slots.new.base ≤ now }
     ensures least { IsLeastLater slots.new.base slots.new.dues result.tick }
-    ensures lone { IsLone slots.new.dues result.tick result.lone }
+    ensures first { IsFirstAt slots.new.dues result.tick result.first }
     ensures settled { now < result.tick }
 {
     let mut next = Next {
         tick: least,
-        lone: NO_ITEM,
+        first: NO_ITEM,
     };
     while next.tick <= now {
         slots.advance(next.tick);
@@ -119,12 +119,9 @@ impl Wheel {
         ensures { self.new ≡ record self.old { dues = slice_set self.old.dues id.number None } }
     {
         let tick = due.get();
-        if id.number == self.front.lone && tick <= self.last && self.slots.is_near(tick) {
-            self.slots.disarm_lone(id.number, tick);
-            let next = self.slots.least_later();
-            self.front.least = next.tick;
-            self.front.early = next.tick;
-            self.front.lone = next.lone;
+        if id.number == self.front.first && self.slots.is_near(tick) {
+            self.slots.disarm_near(id.number, tick);
+            self.front.go_on(&self.slots);
         } else {
             self.disarm_other(id, due);
         }
@@ -181,11 +178,8 @@ impl Wheel {
     {
         let tick = before.get();
         if self.front.is_first(tick) && tick < due.get() && self.slots.is_near(tick) {
-            if self.slots.arm_near_anew(id.number, tick, due) {
-                self.front.look_near(&self.slots);
-            } else {
-                self.front.go_on(&self.slots);
-            }
+            self.slots.arm_near_anew(id.number, tick, due);
+            self.front.go_on(&self.slots);
         } else {
             self.arm_anew_in_full(id, before, due);
         }
@@ -231,39 +225,22 @@ impl Wheel {
         ensures same { self.new.dues ≡ self.old.dues }
         ensures last { self.new.last ≡ max self.old.last now }
     {
-        let Front { early, lone, .. } = self.front;
+        let Front { early, first, .. } = self.front;
         if self.last < now.get() {
             self.last = now.get();
         }
         if now.get() < early {
             return None;
         }
-        if now.get() == early && lone < 1024 {
-            return Some(ItemId { number: lone });
+        if now.get() == early && first < 1024 {
+            return Some(ItemId { number: first });
         }
         self.search_due(now)
     }
 
-    // The first item that is due, where one may be. Of a few that are due now it is told without a move.
+    // The first item that is due, whatever has passed.
     #[inline(never)]
     fn search_due(&mut self, now: Tick) -> Option<ItemId>
-        requires { now ≤ self.old.last }
-        ensures item { MatchOption result (NoneIsDue now self.old.dues) (λ id. IsFirstDue now self.old.dues id.number) }
-        ensures same { self.new.dues ≡ self.old.dues }
-        ensures last { self.new.last ≡ self.old.last }
-    {
-        let Front { least, early, .. } = self.front;
-        if now.get() == least && least == early {
-            if let Some(number) = self.slots.first_of_next(least) {
-                return Some(ItemId { number });
-            }
-        }
-        self.search_due_in_full(now)
-    }
-
-    // The same, whatever has passed.
-    #[inline(never)]
-    fn search_due_in_full(&mut self, now: Tick) -> Option<ItemId>
         requires { now ≤ self.old.last }
         ensures item { MatchOption result (NoneIsDue now self.old.dues) (λ id. IsFirstDue now self.old.dues id.number) }
         ensures same { self.new.dues ≡ self.old.dues }

@@ -31,41 +31,18 @@ pub(crate) fn take(links: &mut Links, occupied: &mut Bits, node: u32) -> Option<
     None
 }
 
-/// Takes the node out of the list in which it stands. The answer is whether another node is left in it.
+/// Takes the node out of the list in which it stands.
 #[inline(always)]
-pub(crate) fn take_from(links: &mut Links, occupied: &mut Bits, list: u32, node: u32) -> bool
+pub(crate) fn take_from(links: &mut Links, occupied: &mut Bits, list: u32, node: u32)
     requires sized { IsSized links.old occupied.old × (list < 3840) }
     requires marked { AreMarked links.old.lists occupied.old }
     requires node { (node < 1024) × (stands_at node list links.old.lists ≡ true) }
     ensures sized { IsSized links.new occupied.new }
     ensures marked { AreMarked links.new.lists occupied.new }
     ensures taken { IsTaken node links.old.lists links.new.lists }
-    ensures left { result ≡ true → (i : ℕ) × (stands_at i list links.new.lists ≡ true) }
 {
     links.unlink(node);
-    match links.front(list) {
-        Some(_) => true,
-        None => {
-            occupied.set(list, false);
-            false
-        }
-    }
-}
-
-/// Takes the only node of a list out of it.
-#[inline(always)]
-pub(crate) fn take_lone(links: &mut Links, occupied: &mut Bits, list: u32, node: u32)
-    requires sized { IsSized links.old occupied.old × (list < 3840) }
-    requires marked { AreMarked links.old.lists occupied.old }
-    requires node { (node < 1024) × (stands_at node list links.old.lists ≡ true) }
-    requires lone { (i : ℕ) → stands_at i list links.old.lists ≡ true → i ≡ node }
-    ensures sized { IsSized links.new occupied.new }
-    ensures marked { AreMarked links.new.lists occupied.new }
-    ensures taken { IsTaken node links.old.lists links.new.lists }
-    ensures empty { list_at links.new.lists list ≡ [] }
-{
-    links.unlink(node);
-    occupied.set(list, false);
+    occupied.set(list, links.front(list).is_some());
 }
 
 /// Makes the node the last of a list.

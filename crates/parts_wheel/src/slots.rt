@@ -2,13 +2,13 @@
 ghost use Rattle.std.specs.Prelude.{◌≡◌, ◌<◌, ◌≤◌, ◌*◌, ◌/◌, ◌^◌, ℕ, true, None, Some, length, replicate, slice_set, IfOk, IfSome, MatchOption};
 ghost use Rattle.parts_links.specs.Links.{list_at, stands_in, stands_at};
 ghost use Rattle.parts_wheel.specs.Dues.{due_of, NoneIsArmed, IsLeastDue, NoneIsDue, IsFirstDue};
-ghost use Rattle.parts_wheel.specs.Slots.{IsEarly, IsLeastLater, IsLone, AreSmall};
+ghost use Rattle.parts_wheel.specs.Slots.{IsEarly, IsLeastLater, IsFirstAt, AreSmall};
 ghost use Rattle.parts_wheel.specs.Moves.{IsDue};
 
 use crate::bits::Bits;
-use crate::moves::{file, put, refile, take, take_from, take_lone};
+use crate::moves::{file, put, refile, take, take_from};
 use crate::places::{is_near, list_for};
-use crate::walks::{NO_ITEM, Next, least_in, least_of_few, only_in};
+use crate::walks::{NO_ITEM, Next, first_of_few, least_in};
 use parts_filled::filled;
 use parts_links::Links;
 use std::alloc::{AllocError, Global};
@@ -121,33 +121,31 @@ impl Slots {
         }
     }
 
-    /// The same for an item that is due next, and stands in the lowest level. The answer is whether another is due then.
+    /// The same for an item that is due next, and stands in the lowest level.
     #[inline(always)]
-    pub(crate) fn disarm_near(&mut self, id: u32, due: u64) -> bool
+    pub(crate) fn disarm_near(&mut self, id: u32, due: u64)
         requires item { (id < length self.old.dues) × (due_of id self.old.dues ≡ Some due) }
         requires next { IsLeastLater self.old.base self.old.dues due }
         requires near { due / 2048 ≡ self.old.base / 2048 }
         ensures dues { self.new ≡ record self.old { dues = slice_set self.old.dues id None } }
         ensures later { self.old.base < due }
-        ensures left { result ≡ true → IsLeastLater self.new.base self.new.dues due }
     {
         self.dues[id as usize] = None;
-        take_from(&mut self.links, &mut self.occupied, (due % 2048) as u32, id)
+        take_from(&mut self.links, &mut self.occupied, (due % 2048) as u32, id);
     }
 
-    /// An item that is due next, and stands in the lowest level, falls due later. The answer is whether another is due when it was.
+    /// An item that is due next, and stands in the lowest level, falls due later.
     #[inline(always)]
-    pub(crate) fn arm_near_anew(&mut self, id: u32, before: u64, due: Tick) -> bool
+    pub(crate) fn arm_near_anew(&mut self, id: u32, before: u64, due: Tick)
         requires item { (id < length self.old.dues) × (due_of id self.old.dues ≡ Some before) }
         requires next { IsLeastLater self.old.base self.old.dues before }
         requires near { before / 2048 ≡ self.old.base / 2048 }
         requires later { before < due }
         ensures dues { self.new ≡ record self.old { dues = slice_set self.old.dues id (Some due) } }
         ensures later { self.old.base < before }
-        ensures left { result ≡ true → IsLeastLater self.new.base self.new.dues before }
     {
         self.dues[id as usize] = Some(due);
-        let left = take_from(
+        take_from(
             &mut self.links,
             &mut self.occupied,
             (before % 2048) as u32,
@@ -155,7 +153,6 @@ impl Slots {
         );
         let list = list_for(self.base, due.get());
         put(&mut self.links, &mut self.occupied, list, id);
-        left
     }
 
     /// The item, which is due next, is not armed afterwards, and the wheel goes on to its tick.
@@ -176,20 +173,6 @@ impl Slots {
                 due,
             );
         }
-    }
-
-    /// The same for an item that alone is due then, and stands in the lowest level.
-    #[inline(always)]
-    pub(crate) fn disarm_lone(&mut self, id: u32, due: u64)
-        requires item { (id < length self.old.dues) × (due_of id self.old.dues ≡ Some due) }
-        requires next { IsLeastLater self.old.base self.old.dues due }
-        requires near { due / 2048 ≡ self.old.base / 2048 }
-        requires lone { (i : ℕ) → due_of i self.old.dues ≡ Some due → i ≡ id }
-        ensures { self.new ≡ record { dues = slice_set self.old.dues id None; base = due } }
-    {
-        self.dues[id as usize] = None;
-        self.base = due;
-        take_lone(&mut self.links, &mut self.occupied, (due % 2048) as u32, id);
     }
 
     /// The wheel goes on to the least due tick after its own.
@@ -218,30 +201,6 @@ impl Slots {
         self.passed.lowest()
     }
 
-    /// Of the items that are due next, at that tick, where nothing is due before, the one with the least number. None where they are many,
-    /// or do not stand in the lowest level.
-    #[inline(always)]
-    pub(crate) fn first_of_next(&self, due: u64) -> Option<u32>
-        requires next { IsLeastLater self.now.base self.now.dues due × (due ≤ 3 * 10 ^ 18) }
-        requires early { IsEarly self.now.dues due }
-        ensures { IfSome result (λ i. IsFirstDue due self.now.dues i) }
-    {
-        if self.is_near(due) {
-            least_of_few(&self.links, (due % 2048) as u32)
-        } else {
-            None
-        }
-    }
-
-    /// The number of the item that alone is due then, at a tick of the lowest level, or no item's.
-    #[inline(always)]
-    pub(crate) fn lone_at(&self, due: u64) -> u32
-        requires { due / 2048 ≡ self.now.base / 2048 }
-        ensures { IsLone self.now.dues due result }
-    {
-        only_in(&self.links, (due % 2048) as u32)
-    }
-
     /// Whether no armed item has passed.
     pub(crate) fn none_passed(&self) -> bool
         ensures { result ≡ true → NoneIsDue self.now.base self.now.dues }
@@ -261,13 +220,13 @@ impl Slots {
     /// What is due next after the tick of the wheel. None where that stands in no list of the lowest level.
     #[inline(always)]
     pub(crate) fn next_near(&self) -> Option<Next>
-        ensures { IfSome result (λ next. IsLeastLater self.now.base self.now.dues next.tick × IsLone self.now.dues next.tick next.lone) }
+        ensures { IfSome result (λ next. IsLeastLater self.now.base self.now.dues next.tick × IsFirstAt self.now.dues next.tick next.first) }
     {
         match self.occupied.lowest() {
             // a list of the lowest level is for one tick
             Some(list) if list < 2048 => Some(Next {
                 tick: self.base / 2048 * 2048 + list as u64,
-                lone: only_in(&self.links, list),
+                first: first_of_few(&self.links, list),
             }),
             _ => None,
         }
@@ -277,7 +236,7 @@ impl Slots {
     #[inline(always)]
     pub(crate) fn least_later(&self) -> Next
         ensures later { IsLeastLater self.now.base self.now.dues result.tick }
-        ensures lone { IsLone self.now.dues result.tick result.lone }
+        ensures first { IsFirstAt self.now.dues result.tick result.first }
     {
         match self.next_near() {
             Some(next) => next,
@@ -290,13 +249,13 @@ impl Slots {
     pub(crate) fn least_far(&self, early: u64) -> Next
         requires { IsEarly self.now.dues early }
         ensures later { IsLeastLater self.now.base self.now.dues result.tick }
-        ensures lone { IsLone self.now.dues result.tick result.lone }
+        ensures first { IsFirstAt self.now.dues result.tick result.first }
     {
         match self.occupied.lowest() {
             Some(list) => least_in(&self.links, &self.dues, list, early),
             None => Next {
                 tick: u64::MAX,
-                lone: NO_ITEM,
+                first: NO_ITEM,
             },
         }
     }

@@ -1,7 +1,7 @@
 //! Walks along the lists of a wheel.
 ghost use Rattle.std.specs.Prelude.{◌≡◌, ◌<◌, ℕ, true, length, Some, IfSome};
 ghost use Rattle.parts_links.specs.Links.{list_at, stands_in, stands_at};
-ghost use Rattle.parts_wheel.specs.Slots.{IsEarly, IsLeastOf, IsLoneOf, IsSooner, IsOnly, IsLeastNode};
+ghost use Rattle.parts_wheel.specs.Slots.{IsEarly, IsLeastOf, IsLoneOf, IsSooner, IsLeastNode};
 ghost use Rattle.parts_wheel.specs.Moves.{IsDue};
 
 use parts_links::Links;
@@ -10,12 +10,12 @@ use words_numbers::Tick;
 /// No item's number.
 pub(crate) const NO_ITEM: u32 = u32::MAX;
 
-/// The least due tick of some items, the last number where there are none, and the number of the item that alone is due then, or no
-/// item's.
+/// The least due tick of some items, the last number where there are none, and the least number of an item that is due then, or no item's
+/// where that is not known.
 #[derive(Clone, Copy)]
 pub struct Next {
     pub(crate) tick: u64,
-    pub(crate) lone: u32,
+    pub(crate) first: u32,
 }
 
 /// What is due next of the items in one list, of which none is due before that tick. The walk ends where a second is due then.
@@ -25,17 +25,17 @@ pub(crate) fn least_in(links: &Links, dues: &[Option<Tick>], list: u32, early: u
     requires armed { (i : ℕ) → stands_at i list links.now.lists ≡ true → (d : ℕ) × IsDue dues.now i d }
     requires early { IsEarly dues.now early }
     ensures least { IsLeastOf dues.now (list_at links.now.lists list) result.tick }
-    ensures lone { IsLoneOf dues.now (list_at links.now.lists list) result.tick result.lone }
+    ensures lone { IsLoneOf dues.now (list_at links.now.lists list) result.tick result.first }
 {
     links.stand_once();
     let mut next = Next {
         tick: u64::MAX,
-        lone: NO_ITEM,
+        first: NO_ITEM,
     };
     let mut at = links.front(list);
     while let Some(node) = at {
         next = sooner(next, node, dues[node as usize]);
-        if next.tick == early && next.lone == NO_ITEM {
+        if next.tick == early && next.first == NO_ITEM {
             return next;
         }
         at = links.next(node);
@@ -46,48 +46,36 @@ pub(crate) fn least_in(links: &Links, dues: &[Option<Tick>], list: u32, early: u
 /// What is due next, of one item more.
 #[inline(always)]
 fn sooner(next: Next, node: u32, due: Option<Tick>) -> Next
-    ensures { IsSooner next.tick next.lone node due result.tick result.lone }
+    ensures { IsSooner next.tick next.first node due result.tick result.first }
 {
     match due {
         Some(tick) if tick.get() < next.tick => Next {
             tick: tick.get(),
-            lone: node,
+            first: node,
         },
         Some(tick) if tick.get() == next.tick => Next {
             tick: next.tick,
-            lone: NO_ITEM,
+            first: NO_ITEM,
         },
         _ => next,
     }
 }
 
-/// The number of the node of the list that holds no other, or no node's.
-#[inline(always)]
-pub(crate) fn only_in(links: &Links, list: u32) -> u32
-    requires list { list < length links.now.lists }
-    ensures { IsOnly (list_at links.now.lists list) result }
-{
-    links.stand_once();
-    only(links.front(list), links.back(list))
-}
-
-// The number of the first node of a list, where it is that of the last too, or no node's. No branch hangs on which it is, as lists of
-// one node and longer ones come in turn.
-#[inline(always)]
-fn only(first: Option<u32>, last: Option<u32>) -> u32
-    ensures { result < 1024 → (first ≡ Some result) × (last ≡ Some result) }
-{
-    let first = first.unwrap_or(NO_ITEM);
-    let last = last.unwrap_or(NO_ITEM);
-    if first == last { first } else { NO_ITEM }
-}
-
 /// How many nodes behind the first `least_of_few` looks at.
 const FEW: u32 = 7;
 
-/// The least number of a node in a list of few. None where there are more, or none at all.
+/// The least number of a node in a list of few. No item's where there are more, or none at all.
 #[inline(always)]
-pub(crate) fn least_of_few(links: &Links, list: u32) -> Option<u32>
+pub(crate) fn first_of_few(links: &Links, list: u32) -> u32
+    requires list { list < length links.now.lists }
+    ensures { result < 1024 → IsLeastNode (list_at links.now.lists list) result }
+{
+    least_of_few(links, list).unwrap_or(NO_ITEM)
+}
+
+// The same, None where there are more, or none at all.
+#[inline(always)]
+fn least_of_few(links: &Links, list: u32) -> Option<u32>
     requires list { list < length links.now.lists }
     ensures { IfSome result (λ n. IsLeastNode (list_at links.now.lists list) n) }
 {

@@ -33,7 +33,7 @@ loop-at-preserved c =
     let l = c.args.links.now in let k = c.args.list in let xs = list_at l.lists k in let n = c.in-Some.node in let stands = (c.loop-at.invariant.1 n c.in-Some.is).1 in
     let next = c.next-at.ensures.follower ∙ follows_in l c.stand_once.ensures n k c.requires.list stands in
     let o = c.requires.armed n stands in let inside = armed_inside c.args.dues.now n o.0 o.1 in (
-      walk_on c.args.dues.now xs c.loop-at.at _ c.next-at.result n o.0 c.loop-at.next.tick c.loop-at.next.lone c.sooner-next.result.tick c.sooner-next.result.lone (c.stand_once.ensures.distinct k c.requires.list) c.in-Some.is stands next o.1
+      walk_on c.args.dues.now xs c.loop-at.at _ c.next-at.result n o.0 c.loop-at.next.tick c.loop-at.next.first c.sooner-next.result.tick c.sooner-next.result.first (c.stand_once.ensures.distinct k c.requires.list) c.in-Some.is stands next o.1
           (read_at c.args.dues.now n c.index-dues-node.result c.index-dues-node.is inside ∙ o.1) c.sooner-next.ensures c.loop-at.invariant.0,
       λ m e. let h = follower_stands n m xs (sym next ∙ e) in (c.stand_once.ensures.small m k c.requires.list h, h),
     )
@@ -42,6 +42,6 @@ pub returns-then-next-clause-least : goal.returns-then-next-clause-least
 returns-then-next-clause-least c =
     let l = c.args.links.now in let k = c.args.list in let xs = list_at l.lists k in let n = c.in-Some.node in let stands = (c.loop-at.invariant.1 n c.in-Some.is).1 in
     let o = c.requires.armed n stands in let inside = armed_inside c.args.dues.now n o.0 o.1 in
-    let walked = walk_on c.args.dues.now xs c.loop-at.at _ (follower n xs) n o.0 c.loop-at.next.tick c.loop-at.next.lone c.sooner-next.result.tick c.sooner-next.result.lone (c.stand_once.ensures.distinct k c.requires.list) c.in-Some.is stands refl o.1
+    let walked = walk_on c.args.dues.now xs c.loop-at.at _ (follower n xs) n o.0 c.loop-at.next.tick c.loop-at.next.first c.sooner-next.result.tick c.sooner-next.result.first (c.stand_once.ensures.distinct k c.requires.list) c.in-Some.is stands refl o.1
     (read_at c.args.dues.now n c.index-dues-node.result c.index-dues-node.is inside ∙ o.1) c.sooner-next.ensures c.loop-at.invariant.0 in
     record { least = λ i d h due. let e = c.requires.early i d due in omega (arith, e, c.if-next-early.true); holds = walked.holds }

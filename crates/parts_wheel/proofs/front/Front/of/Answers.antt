@@ -5,12 +5,12 @@ pub returns-then-none_passed : goal.returns-then-none_passed
 returns-then-none_passed c =
     let next = c.requires.next in
     let none = c.none_passed.ensures c.if-none_passed.true in
-    record { later = next.0; none_before = λ i d due. next.0.least i d due (none i d due); alone = next.1; first = λ _. refl }
+    record { later = next.0; none_before = λ i d due. next.0.least i d due (none i d due); lowest = next.1; at_once = λ _. refl }
 
 pub returns-else-none_passed : goal.returns-else-none_passed
 returns-else-none_passed c = record {
   later = c.requires.next.0;
   none_before = c.requires.early;
-  alone = λ item. absurd (omega (arith, item));
-  first = λ item. absurd (omega (arith, item));
+  lowest = λ item. absurd (omega (arith, item));
+  at_once = λ item. absurd (omega (arith, item));
 }

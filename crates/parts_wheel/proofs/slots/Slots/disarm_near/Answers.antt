@@ -4,7 +4,7 @@ use Rattle.parts_links.specs.Links.{stands_at}
 use Rattle.parts_wheel.specs.Slots.{Placed, IsLeastLater}
 use Rattle.parts_wheel.specs.Dues.{due_of}
 use Rattle.parts_wheel.proofs.Filing.{none_some, near_list}
-use Rattle.parts_wheel.proofs.Holding.{still_small, comes_next, disarmed_later, next_stays}
+use Rattle.parts_wheel.proofs.Holding.{still_small, comes_next, disarmed_later}
 use Rattle.parts_wheel.proofs.slots.Slots.disarm_near.Goals as goal
 
 pub take_from-requires-clause-node : goal.take_from-requires-clause-node
@@ -37,13 +37,3 @@ returns-clause-later c =
     let asked = subst (λ (p : Placed). (id < length p.dues) × (due_of id p.dues ≡ Some d)) (sym c.self.view_is) c.requires.item in
     let next = subst (λ (p : Placed). IsLeastLater p.base p.dues d) (sym c.self.view_is) c.requires.next in
     subst (λ (p : Placed). p.base < d) c.self.view_is (comes_next s.base d s.dues.items next (i.small id d asked.1))
-
-pub returns-clause-left : goal.returns-clause-left
-returns-clause-left c h =
-    let s = c.self.inside in let id = c.args.id in let d = c.args.due in let i = c.self.invariant in
-    let asked = subst (λ (p : Placed). (id < length p.dues) × (due_of id p.dues ≡ Some d)) (sym c.self.view_is) c.requires.item in
-    let next = subst (λ (p : Placed). IsLeastLater p.base p.dues d) (sym c.self.view_is) c.requires.next in
-    let near = subst (λ (p : Placed). d / 2048 ≡ p.base / 2048) (sym c.self.view_is) c.requires.near in
-    let after = comes_next s.base d s.dues.items next (i.small id d asked.1) in
-    let x = c.take_from.ensures.left h in
-    next_stays s.base id d x.0 s.dues.items s.links.lists c.take_from.new.links.lists s.passed i.filed asked.1 next near after c.take_from.ensures.taken x.1
