@@ -1,5 +1,5 @@
 //! A set of small numbers, a bit for each.
-ghost use Rattle.std.specs.Prelude.{◌≡◌, ◌≢◌, ℕ, ◌<◌, ◌≤◌, ◌*◌, if◌then◌else◌, MatchOption, IfOk, length, true, false};
+ghost use Rattle.std.specs.Prelude.{◌≡◌, ◌≢◌, ℕ, ◌<◌, ◌≤◌, ◌*◌, if◌then◌else◌, MatchOption, IfOk, length, true};
 ghost use Rattle.std.specs.Int.{bit_at};
 ghost use Rattle.parts_wheel.specs.Bits.{ChangesBit, IsLowestSet, NoneIsSet};
 

@@ -4,17 +4,17 @@
 //! Proved: a finite map from item to due tick: `next` is the least due tick, `first_due` the least item that is due, and
 //! `pop_due` takes it out.
 //!
-//! Contracts see a finite map from item number to due tick, and the last `now` of `first_due` or `pop_due`; `specs/Dues.antt` states what each call
-//! answers. The wheel stands at a tick that is at most that last `now`. An item that is due later stands on the list of its slot, bits
-//! tell which slots are taken, and an item whose tick has passed is a bit of a set, so that the least
-//! number is found at once. The least later due tick is kept, so that `next` searches no slot, a tick before which nothing is due, so
-//! that `first_due` is one comparison where nothing is, and the least number of an item that is due then, which `first_due` answers. No call after
-//! `open` takes memory.
+//! Contracts see a finite map from item number to due tick, and the last `now` of `first_due` or `pop_due`; `specs/Dues.antt`
+//! states what each call answers. The wheel stands at a tick that is at most that last `now`. An item that is due later stands on
+//! the list of its slot, bits tell which slots are taken, and an item whose tick has passed is a bit of a set, so that the least
+//! number is found at once. The least later due tick is kept, so that `next` searches no slot, a tick before which nothing is due,
+//! so that `first_due` is one comparison where nothing is, and the least number of an item that is due then, which `first_due`
+//! answers. No call after `open` takes memory.
 #![tactic(auto)]
 
-ghost use Rattle.std.specs.Prelude.{◌≡◌, ◌≢◌, ◌≤◌, ◌<◌, ◌*◌, ◌^◌, ℕ, None, Some, true, false, length, max, replicate, slice_set, IfOk, MatchOption};
+ghost use Rattle.std.specs.Prelude.{◌≡◌, ◌≤◌, ◌<◌, ◌*◌, ◌^◌, None, Some, length, max, replicate, slice_set, IfOk, MatchOption};
 ghost use Rattle.parts_wheel.specs.Dues.{due_of, NoneIsArmed, IsLeastDue, NoneIsDue, IsFirstDue};
-ghost use Rattle.parts_wheel.specs.Slots.{Placed, IsLeastLater, IsFirstAt, IsEarly, IsFront};
+ghost use Rattle.parts_wheel.specs.Slots.{IsLeastLater, IsFirstAt};
 
 mod bits;
 mod dues;

@@ -1,5 +1,5 @@
 //! The list of a due tick in the wheel.
-ghost use Rattle.std.specs.Prelude.{◌≡◌, ◌≢◌, ◌≤◌, ◌+◌, ◌*◌, ◌<◌, ◌/◌, ◌^◌, true, false};
+ghost use Rattle.std.specs.Prelude.{◌≡◌, ◌≢◌, ◌+◌, ◌*◌, ◌<◌, ◌/◌, ◌^◌, true, false};
 ghost use Rattle.parts_wheel.specs.Places.{place};
 ghost use Rattle.parts_wheel.specs.Slots.{list_for};
 

@@ -1,9 +1,7 @@
 //! The slots of a wheel.
-ghost use Rattle.std.specs.Prelude.{◌≡◌, ◌<◌, ◌≤◌, ◌*◌, ◌/◌, ◌^◌, ℕ, true, None, Some, length, replicate, slice_set, IfOk, IfSome, MatchOption};
-ghost use Rattle.parts_links.specs.Links.{list_at, stands_in, stands_at};
-ghost use Rattle.parts_wheel.specs.Dues.{due_of, NoneIsArmed, IsLeastDue, NoneIsDue, IsFirstDue};
+ghost use Rattle.std.specs.Prelude.{◌≡◌, ◌<◌, ◌≤◌, ◌*◌, ◌/◌, ◌^◌, true, None, Some, length, replicate, slice_set, IfOk, IfSome, MatchOption};
+ghost use Rattle.parts_wheel.specs.Dues.{due_of, NoneIsDue, IsFirstDue};
 ghost use Rattle.parts_wheel.specs.Slots.{IsEarly, IsLeastLater, IsFirstAt, AreSmall};
-ghost use Rattle.parts_wheel.specs.Moves.{IsDue};
 
 use crate::bits::Bits;
 use crate::moves::{file, put, refile, take, take_from};

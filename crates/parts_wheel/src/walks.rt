@@ -1,6 +1,6 @@
 //! Walks along the lists of a wheel.
 ghost use Rattle.std.specs.Prelude.{◌≡◌, ◌<◌, ℕ, true, length, Some, IfSome};
-ghost use Rattle.parts_links.specs.Links.{list_at, stands_in, stands_at};
+ghost use Rattle.parts_links.specs.Links.{list_at, stands_at};
 ghost use Rattle.parts_wheel.specs.Slots.{IsEarly, IsLeastOf, IsLoneOf, IsSooner, IsLeastNode};
 ghost use Rattle.parts_wheel.specs.Moves.{IsDue};
 
