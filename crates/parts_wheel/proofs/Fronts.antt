@@ -1,9 +1,10 @@
 -- What is due first, before and after a change.
-use Rattle.std.proofs.Common.{◌≡◌, inl, inr, ⊎_elim, ℕ, ◌*◌, ◌^◌, ◌<◌, ◌≤◌, Option, Some, None, List, length, set, sym, subst, ◌∙◌, arith}
+use Rattle.std.proofs.Common.{◌≡◌, ◌≢◌, inl, inr, ⊎_elim, ℕ, ◌*◌, ◌^◌, ◌<◌, ◌≤◌, min, true, IfSome, Option, Some, None, is_some, List, length, set, refl, sym, subst, ◌∙◌, arith}
 use Rattle.parts_wheel.specs.Dues.{due_of}
 use Rattle.parts_wheel.specs.Slots.{IsEarly, IsLeastLater, IsFirstAt}
 use Rattle.parts_links.proofs.Chains.{equal}
 use Rattle.parts_wheel.proofs.Holding.{set_same, set_other, apart_from}
+use Rattle.parts_wheel.proofs.Order.{lt_or}
 
 -- ---- the least later due tick after a change
 
@@ -37,8 +38,8 @@ early_armed dues id d early less before le here l i e h = ⊎_elim
     (λ other. let under = before i e (sym (set_other id i (Some d) dues other) ∙ h) in omega (arith, under, le))
     (equal i id)
 
-pub front_led : (base id d least : ℕ) (dues : List (Option ℕ)) → IsLeastLater base dues least → base < d → d < least → id < length dues → IsFirstAt (set dues id (Some d)) d id
-front_led base id d least dues is lt less inside l = (
+pub front_led : (base id d least : ℕ) (dues : List (Option ℕ)) → IsLeastLater base dues least → base < d → d < least → id < length dues → IsFirstAt (set dues id (Some d)) d (Some id)
+front_led base id d least dues is lt less inside = (
   set_same id (Some d) dues inside,
   λ i due. ⊎_elim
       (λ same. omega (arith, same))
@@ -50,23 +51,39 @@ front_led base id d least dues is lt less inside l = (
 pub before_least : (base d early least : ℕ) (dues : List (Option ℕ)) → IsLeastLater base dues least → IsEarly dues early → d < early → d ≤ 3 * 10 ^ 18 → d < least
 before_least base d early least dues is none less small = ⊎_elim (λ never. omega (arith, never, small)) (λ h. let l = none h.0 least h.1 in omega (arith, l, less)) is.holds
 
--- the first item that is due then stays so where another falls due later, or has a greater number
-pub first_stays : (id d least n : ℕ) (dues : List (Option ℕ)) → IsFirstAt dues least n → (d ≡ least → n ≤ id) → due_of id dues ≡ None → id < length dues → IsFirstAt (set dues id (Some d)) least n
-first_stays id d least n dues first behind none inside l = let k = first l in (
-  set_other id n (Some d) dues (apart_from dues id n least none k.0) ∙ k.0,
+-- the first item that is due then stays so where another falls due at another tick
+first_stays : (id d least n : ℕ) (dues : List (Option ℕ)) → IsFirstAt dues least (Some n) → d ≢ least → due_of id dues ≡ None → id < length dues → IsFirstAt (set dues id (Some d)) least (Some n)
+first_stays id d least n dues first apart none inside = (
+  set_other id n (Some d) dues (apart_from dues id n least none first.0) ∙ first.0,
   λ i due. ⊎_elim
-      (λ same. let s : Some d ≡ Some least = sym (set_same id (Some d) dues inside) ∙ subst (λ m. due_of m (set dues id (Some d)) ≡ Some least) same due in
-      let de : d ≡ least = cc in (let h = behind de in omega (arith, h, same)))
-      (λ other. k.1 i (sym (set_other id i (Some d) dues other) ∙ due))
+      (λ same. absurd (let s : Some d ≡ Some least = sym (set_same id (Some d) dues inside) ∙ subst (λ m. due_of m (set dues id (Some d)) ≡ Some least) same due in
+      let de : d ≡ least = cc in apart de))
+      (λ other. first.1 i (sym (set_other id i (Some d) dues other) ∙ due))
       (equal i id),
 )
 
--- an item that falls due then, too, and has a lower number is the first
-pub first_joins : (id least n : ℕ) (dues : List (Option ℕ)) → IsFirstAt dues least n → n < 1024 → id < n → id < length dues → IsFirstAt (set dues id (Some least)) least id
-first_joins id least n dues first known lower inside l = (
-  set_same id (Some least) dues inside,
-  λ i due. ⊎_elim
-      (λ same. omega (arith, same))
-      (λ other. let h = (first known).1 i (sym (set_other id i (Some least) dues other) ∙ due) in omega (arith, h, lower))
-      (equal i id),
-)
+pub first_kept : (id d early least tick : ℕ) (first : Option ℕ) (dues : List (Option ℕ)) → IsFirstAt dues least first → IfSome first (λ _. early ≡ least) → (is_some first ≡ true → d ≢ early) → early ≤ d
+    → tick ≡ min least d → due_of id dues ≡ None → id < length dues → IsFirstAt (set dues id (Some d)) tick first
+first_kept id d early least tick None dues first same apart le is none inside = tt
+first_kept id d early least tick (Some n) dues first same apart le is none inside =
+    let at : tick ≡ least = omega (arith, same, le, is) in
+    subst (λ t. IsFirstAt (set dues id (Some d)) t (Some n)) (sym at) (first_stays id d least n dues first (λ e. apart refl (e ∙ sym same)) none inside)
+
+pub still_at_once : (first : Option ℕ) (early least d a b : ℕ) → IfSome first (λ _. early ≡ least) → early ≤ d → a ≡ min early d → b ≡ min least d → IfSome first (λ _. a ≡ b)
+still_at_once None early least d a b same le is now = tt
+still_at_once (Some n) early least d a b same le is now = omega (arith, same, le, is, now)
+
+-- of two items that are due then the one with the lower number is the first
+pub first_joins : (id least n : ℕ) (dues : List (Option ℕ)) → IsFirstAt dues least (Some n) → due_of id dues ≡ None → id < length dues → IsFirstAt (set dues id (Some least)) least (Some (min n id))
+first_joins id least n dues first none inside =
+    let low : (i : ℕ) → due_of i (set dues id (Some least)) ≡ Some least → min n id ≤ i = λ i due. ⊎_elim
+    (λ same. omega (arith, same))
+    (λ other. let h = first.1 i (sym (set_other id i (Some least) dues other) ∙ due) in omega (arith, h))
+    (equal i id) in (
+      ⊎_elim
+          (λ lt. let is : n ≡ min n id = omega (arith, lt) in
+          subst (λ m. due_of m (set dues id (Some least)) ≡ Some least) is (set_other id n (Some least) dues (apart_from dues id n least none first.0) ∙ first.0))
+          (λ le. let is : id ≡ min n id = omega (arith, le) in subst (λ m. due_of m (set dues id (Some least)) ≡ Some least) is (set_same id (Some least) dues inside))
+          (lt_or n id),
+      low,
+    )

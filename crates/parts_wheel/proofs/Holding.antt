@@ -1,6 +1,7 @@
 -- Items that are armed and disarmed, and what the slots tell of due ticks.
-use Rattle.std.proofs.Common.{ltb-false, ◌≡◌, ◌≢◌, inl, inr, ⊎_elim, ℕ, zero, suc, ◌+◌, ◌*◌, ◌/◌, ◌^◌, ◌-◌, ◌<◌, ◌≤◌, true, false, nat_lt, replicate, Option, Some, None, MatchOption, List, [], ◌∷◌, length, get_or, set, refl, sym, ap, subst, ◌∙◌, arith}
+use Rattle.std.proofs.Common.{ltb-false, ◌≡◌, ◌≢◌, inl, inr, ⊎_elim, ℕ, zero, suc, ◌+◌, ◌*◌, ◌/◌, ◌^◌, ◌-◌, ◌<◌, ◌≤◌, true, false, nat_lt, replicate, Option, Some, None, IfSome, MatchOption, List, [], ◌∷◌, length, get_or, set, refl, sym, ap, subst, ◌∙◌, arith}
 use borrow.Author.Tests.{clash}
+use Rattle.std.proofs.lemmas.Option.{IfSome_then}
 use Rattle.std.proofs.lemmas.List.{get_or_default, get_or-set_same, get_or-set_other}
 use Rattle.std.proofs.lemmas.Bool.Decides.{nat_tests}
 use Rattle.parts_links.specs.Links.{Lists, list_at, stands_in, on_a_list, stands_at}
@@ -221,23 +222,24 @@ least_at_tick base dues lists occupied passed list filed marked low near =
 
 -- ---- which item is the first of those that are due next
 
-pub lone_first : (base list tick n : ℕ) (dues : List (Option ℕ)) (lists : List (List ℕ)) (passed : List ℕ) → AreFiled base dues lists passed → IsLoneOf dues (list_at lists list) tick n → IsFirstAt dues tick n
-lone_first base list tick n dues lists passed filed of l =
-    let k = of l in let o = filed.only_later n list k.0 in
+pub lone_first : (base list tick : ℕ) (lone : Option ℕ) (dues : List (Option ℕ)) (lists : List (List ℕ)) (passed : List ℕ) → AreFiled base dues lists passed → IsLoneOf dues (list_at lists list) tick lone
+    → IsFirstAt dues tick lone
+lone_first base list tick lone dues lists passed filed of = IfSome_then lone of (λ n k.
+    let o = filed.only_later n list k.0 in
     let same = same_due dues n o.0 tick o.1 k.1 in
     let at : list ≡ list_for base tick = subst (λ t. list ≡ list_for base t) same o.3 in
     let after : base < tick = omega (arith, o.2, same) in
-    (k.1, λ i due. let e = k.2 i (subst (λ m. stands_at i m lists ≡ true) (sym at) (filed.later i tick due after)) due in omega (arith, e))
+    (k.1, λ i due. let e = k.2 i (subst (λ m. stands_at i m lists ≡ true) (sym at) (filed.later i tick due after)) due in omega (arith, e)))
 
 -- a list of the lowest level is for one tick
-pub first_at_tick : (base list n : ℕ) (dues : List (Option ℕ)) (lists : List (List ℕ)) (passed : List ℕ) → AreFiled base dues lists passed → list < 2048
-    → (n < 1024 → IsLeastNode (list_at lists list) n) → IsFirstAt dues (base / 2048 * 2048 + list) n
-first_at_tick base list n dues lists passed filed near least l =
-    let k = least l in let o = filed.only_later n list k.stands in
+pub first_at_tick : (base list : ℕ) (first : Option ℕ) (dues : List (Option ℕ)) (lists : List (List ℕ)) (passed : List ℕ) → AreFiled base dues lists passed → list < 2048
+    → IfSome first (λ n. IsLeastNode (list_at lists list) n) → IsFirstAt dues (base / 2048 * 2048 + list) first
+first_at_tick base list first dues lists passed filed near least = IfSome_then first least (λ n k.
+    let o = filed.only_later n list k.stands in
     let t = near_tick base o.0 list near o.3 in
     let at : list ≡ list_for base (base / 2048 * 2048 + list) = subst (λ d. list ≡ list_for base d) t o.3 in
     let after : base < base / 2048 * 2048 + list = omega (arith, o.2, t) in
-    (o.1 ∙ ap Some t, λ i due. k.least i (subst (λ m. stands_at i m lists ≡ true) (sym at) (filed.later i (base / 2048 * 2048 + list) due after)))
+    (o.1 ∙ ap Some t, λ i due. k.least i (subst (λ m. stands_at i m lists ≡ true) (sym at) (filed.later i (base / 2048 * 2048 + list) due after))))
 
 -- ---- a wheel goes on to its least later due tick
 

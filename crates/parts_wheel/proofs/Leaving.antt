@@ -1,5 +1,6 @@
 -- What is due first once an item is not armed.
 use Rattle.std.proofs.Common.{◌≡◌, ◌≢◌, inl, inr, ⊎_elim, ℕ, ◌<◌, ◌≤◌, Option, Some, None, List, length, set, sym, ap, subst, ◌∙◌}
+use Rattle.std.proofs.lemmas.Option.{IfSome_then}
 use Rattle.parts_links.proofs.Chains.{equal}
 use Rattle.parts_wheel.specs.Dues.{Dues, due_of}
 use Rattle.parts_wheel.specs.Slots.{Placed, AreSmall, IsCached, IsEarly, IsFront}
@@ -29,7 +30,7 @@ module _ (slots new : Placed) (id base last : ℕ) (now : Dues) (left : new ≡ 
   pub left_early : (early : ℕ) → IsEarly slots.dues early → IsEarly new.dues early
   left_early early before i d h = before i d (was_due i d h)
 
-  pub left_cached : (least early first : ℕ) → IsFront new least early first → base ≤ last → AreSmall slots.dues → IsCached new least early first last
+  pub left_cached : (least early : ℕ) (first : Option ℕ) → IsFront new least early first → base ≤ last → AreSmall slots.dues → IsCached new least early first last
   left_cached least early first front behind small = record {
     front = front;
     behind = subst (λ b. b ≤ last) (sym (ap (λ (s : Placed). s.base) left)) behind;
@@ -40,7 +41,7 @@ module _ (slots new : Placed) (id base last : ℕ) (now : Dues) (left : new ≡ 
   left_view = ap (λ (ds : List (Option ℕ)). record { dues = ds; last = last }) dues_left ∙ ap (λ (n : Dues). record { dues = set n.dues id None; last = n.last }) is
 
   -- the item was not among those that are due first
-  pub left_front : (d least early first : ℕ) → IsFront slots least early first → base ≡ slots.base → due_of id now.dues ≡ Some d → d ≢ least → IsFront new least early first
+  pub left_front : (d least early : ℕ) (first : Option ℕ) → IsFront slots least early first → base ≡ slots.base → due_of id now.dues ≡ Some d → d ≢ least → IsFront new least early first
   left_front d least early first front same due apart =
       let due_then : due_of id slots.dues ≡ Some d = subst (λ (n : Dues). due_of id n.dues ≡ Some d) (sym is) due in
       let stays : (i : ℕ) → due_of i slots.dues ≡ Some least → due_of i new.dues ≡ Some least =
@@ -52,6 +53,6 @@ module _ (slots new : Placed) (id base last : ℕ) (now : Dues) (left : new ≡ 
           holds = ⊎_elim (λ none. inl none) (λ h. inr (h.0, stays h.0 h.1, subst (λ b. b < least) (sym stands) h.2)) front.later.holds;
         };
         none_before = left_early early front.none_before;
-        lowest = λ l. (stays first (front.lowest l).0, λ i h. (front.lowest l).1 i (was_due i least h));
+        lowest = IfSome_then first front.lowest (λ n k. (stays n k.0, λ i h. k.1 i (was_due i least h)));
         at_once = front.at_once;
       }

@@ -1,5 +1,5 @@
 -- Due ticks in the slots of a wheel that stands at a base: which item stands where (this project's own).
-use Rattle.std.specs.Prelude.{◌≡◌, ◌⊎◌, ◌==◌, if◌then◌else◌, ℕ, ◌+◌, ◌-◌, ◌*◌, ◌/◌, ◌%◌, ◌^◌, ◌<◌, ◌≤◌, true, nat_lt, List, Option, Some, length, MatchOption}
+use Rattle.std.specs.Prelude.{◌≡◌, ◌≢◌, ◌⊎◌, ◌==◌, if◌then◌else◌, ℕ, ◌+◌, ◌-◌, ◌*◌, ◌/◌, ◌%◌, ◌^◌, ◌<◌, ◌≤◌, min, true, nat_lt, List, Option, None, Some, is_some, length, IfSome, MatchOption}
 use Rattle.parts_links.specs.Links.{list_at, stands_in, stands_at}
 use Rattle.parts_wheel.specs.Places.{place, list_of}
 use Rattle.parts_wheel.specs.Bits.{is_set}
@@ -42,39 +42,39 @@ pub record IsLeastOf (dues : List (Option ℕ)) (items : List ℕ) (tick : ℕ) 
 abbrev pub IsEarly : List (Option ℕ) → ℕ → Type 0
 IsEarly dues tick = (i d : ℕ) → due_of i dues ≡ Some d → tick ≤ d
 
--- where the number is one of an item, that item is due then, and none with a lower number is
-abbrev pub IsFirstAt : List (Option ℕ) → ℕ → ℕ → Type 0
-IsFirstAt dues tick n = n < 1024 → (due_of n dues ≡ Some tick) × ((i : ℕ) → due_of i dues ≡ Some tick → n ≤ i)
+-- where an item is named, it is due then, and none with a lower number is
+abbrev pub IsFirstAt : List (Option ℕ) → ℕ → Option ℕ → Type 0
+IsFirstAt dues tick first = IfSome first (λ n. (due_of n dues ≡ Some tick) × ((i : ℕ) → due_of i dues ≡ Some tick → n ≤ i))
 
--- where the number is one of an item of the list, that item alone of them is due then
-abbrev pub IsLoneOf : List (Option ℕ) → List ℕ → ℕ → ℕ → Type 0
-IsLoneOf dues items tick n = n < 1024 → (stands_in n items ≡ true) × (due_of n dues ≡ Some tick) × ((i : ℕ) → stands_in i items ≡ true → due_of i dues ≡ Some tick → i ≡ n)
+-- where an item is named, it alone of the list is due then
+abbrev pub IsLoneOf : List (Option ℕ) → List ℕ → ℕ → Option ℕ → Type 0
+IsLoneOf dues items tick lone = IfSome lone (λ n. (stands_in n items ≡ true) × (due_of n dues ≡ Some tick) × ((i : ℕ) → stands_in i items ≡ true → due_of i dues ≡ Some tick → i ≡ n))
 
 -- the node stands in the list, and none with a lower number does
 pub record IsLeastNode (items : List ℕ) (n : ℕ) : Type 0 where
   pub stands : stands_in n items ≡ true
   pub least : (i : ℕ) → stands_in i items ≡ true → n ≤ i
 
--- the least tick, and the number of the item that alone is due then, once an item is added to those before
-abbrev pub IsSooner : ℕ → ℕ → ℕ → Option ℕ → ℕ → ℕ → Type 0
+-- the least tick, and the item that alone is due then, once an item is added to those before
+abbrev pub IsSooner : ℕ → Option ℕ → ℕ → Option ℕ → ℕ → Option ℕ → Type 0
 IsSooner tick lone node due now sole = MatchOption due ((now ≡ tick) × (sole ≡ lone))
-    (λ d. ((d < tick) × (now ≡ d) × (sole ≡ node)) ⊎ (((d ≡ tick) × (now ≡ tick) × (sole ≡ 2 ^ 32 - 1)) ⊎ ((tick < d) × (now ≡ tick) × (sole ≡ lone))))
+    (λ d. ((d < tick) × (now ≡ d) × (sole ≡ Some node)) ⊎ (((d ≡ tick) × (now ≡ tick) × (sole ≡ None)) ⊎ ((tick < d) × (now ≡ tick) × (sole ≡ lone))))
 
--- which item is first once one more falls due: that one, where it is due before the others, or with them and by a lower number; else the one
--- that was, where it was known
-abbrev pub IsFirstWith : ℕ → ℕ → ℕ → ℕ → ℕ → Type 0
-IsFirstWith early first id tick now = ((tick < early) × (now ≡ id))
-    ⊎ (((tick ≡ early) × (id < first) × (first < 1024) × (now ≡ id)) ⊎ ((early ≤ tick) × (now ≡ first) × (first < 1024 → tick ≡ early → first ≤ id)))
+-- which item is first once one more falls due: that one, where it is due before the others; the lower of the two, where it is due with one
+-- that is known; else the one that was
+abbrev pub IsFirstWith : ℕ → Option ℕ → ℕ → ℕ → Option ℕ → Type 0
+IsFirstWith early first id tick now = ((tick < early) × (now ≡ Some id))
+    ⊎ (((tick ≡ early) × ((f : ℕ) × (first ≡ Some f) × (now ≡ Some (min f id)))) ⊎ ((early ≤ tick) × (now ≡ first) × (is_some first ≡ true → tick ≢ early)))
 
--- the least later due tick, a tick before which nothing is due, and the least number of an item that is due at both, or no item's
-pub record IsFront (slots : Placed) (least early first : ℕ) : Type 0 where
+-- the least later due tick, a tick before which nothing is due, and the item of the least number that is due at both, where it is known
+pub record IsFront (slots : Placed) (least early : ℕ) (first : Option ℕ) : Type 0 where
   pub later : IsLeastLater slots.base slots.dues least
   pub none_before : IsEarly slots.dues early
   pub lowest : IsFirstAt slots.dues least first
-  pub at_once : first < 1024 → early ≡ least
+  pub at_once : IfSome first (λ _. early ≡ least)
 
 -- what a wheel keeps beside its slots
-pub record IsCached (slots : Placed) (least early first last : ℕ) : Type 0 where
+pub record IsCached (slots : Placed) (least early : ℕ) (first : Option ℕ) (last : ℕ) : Type 0 where
   pub front : IsFront slots least early first
   pub behind : slots.base ≤ last
   pub small : AreSmall slots.dues

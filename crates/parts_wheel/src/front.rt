@@ -4,7 +4,7 @@ ghost use Rattle.parts_wheel.specs.Dues.{due_of};
 ghost use Rattle.parts_wheel.specs.Slots.{Placed, IsLeastLater, IsFirstAt, IsFirstWith, IsEarly, IsFront};
 
 use crate::slots::Slots;
-use crate::walks::{NO_ITEM, Next};
+use crate::walks::Next;
 
 /// What is due first.
 #[derive(Clone, Copy)]
@@ -13,19 +13,19 @@ pub(crate) struct Front {
     pub(crate) least: u64,
     // nothing is due before that tick
     pub(crate) early: u64,
-    // the least number of an item that is due then, where that is later than the slots' tick, or no item's where it is not known
-    pub(crate) first: u32,
+    // the item of the least number that is due then, where that is later than the slots' tick, and it is known
+    pub(crate) first: Option<u32>,
 }
 
 impl Front {
     /// Nothing is due.
     pub(crate) fn open() -> Front
-        ensures { (result.least ≡ 2 ^ 64 - 1) × (result.early ≡ 2 ^ 64 - 1) × (result.first ≡ 2 ^ 32 - 1) }
+        ensures { (result.least ≡ 2 ^ 64 - 1) × (result.early ≡ 2 ^ 64 - 1) × (result.first ≡ None) }
     {
         Front {
             least: u64::MAX,
             early: u64::MAX,
-            first: NO_ITEM,
+            first: None,
         }
     }
 
@@ -46,8 +46,27 @@ impl Front {
             Front {
                 least: next.tick,
                 early,
-                first: NO_ITEM,
+                first: None,
             }
+        }
+    }
+
+    /// Whether nothing is due before that tick, and it is what is due next after that of the slots.
+    #[inline(always)]
+    pub(crate) fn is_first(&self, tick: u64) -> bool
+        ensures { result ≡ true → (self.now.least ≡ tick) × (self.now.early ≡ tick) }
+    {
+        self.least == tick && self.early == tick
+    }
+
+    /// Whether that item is known to be the first that is due next.
+    #[inline(always)]
+    pub(crate) fn is_lead(&self, id: u32) -> bool
+        ensures { result ≡ true → self.now.first ≡ Some id }
+    {
+        match self.first {
+            Some(first) => first == id,
+            None => false,
         }
     }
 
@@ -61,14 +80,6 @@ impl Front {
             Some(next) => *self = Front::of(slots, next, self.early),
             None => self.look_in_full(slots),
         }
-    }
-
-    /// Whether nothing is due before that tick, and it is what is due next after that of the slots.
-    #[inline(always)]
-    pub(crate) fn is_first(&self, tick: u64) -> bool
-        ensures { result ≡ true → (self.now.least ≡ tick) × (self.now.early ≡ tick) }
-    {
-        self.least == tick && self.early == tick
     }
 
     /// The same where none has passed.
@@ -104,7 +115,7 @@ impl Front {
         let early = self.early.min(tick);
         Front {
             early,
-            first: NO_ITEM,
+            first: None,
             ..self
         }
     }
@@ -124,15 +135,15 @@ impl Front {
 
     // Which item is first once one more falls due, later than the tick of the slots.
     #[inline(always)]
-    fn first_with(&self, id: u32, tick: u64) -> u32
+    fn first_with(&self, id: u32, tick: u64) -> Option<u32>
         ensures { IsFirstWith self.now.early self.now.first id tick result }
     {
         if tick < self.early {
-            return id;
+            return Some(id);
         }
-        if tick == self.early && id < self.first && self.first < 1024 {
-            return id;
+        match self.first {
+            Some(first) if tick == self.early => Some(first.min(id)),
+            first => first,
         }
-        self.first
     }
 }

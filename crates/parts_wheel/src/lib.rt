@@ -29,7 +29,7 @@ use front::Front;
 use slots::Slots;
 use std::alloc::{AllocError, Global};
 use std::marker::Model;
-use walks::{NO_ITEM, Next};
+use walks::Next;
 use words_numbers::{ItemId, Tick};
 
 /// Items and their due ticks.
@@ -63,7 +63,7 @@ fn caught_up(slots: &mut Slots, least: u64, now: u64) -> Next
 {
     let mut next = Next {
         tick: least,
-        first: NO_ITEM,
+        first: None,
     };
     while next.tick <= now {
         slots.advance(next.tick);
@@ -119,7 +119,7 @@ impl Wheel {
         ensures { self.new ≡ record self.old { dues = slice_set self.old.dues id.number None } }
     {
         let tick = due.get();
-        if id.number == self.front.first && self.slots.is_near(tick) {
+        if self.front.is_lead(id.number) && self.slots.is_near(tick) {
             self.slots.disarm_near(id.number, tick);
             self.front.go_on(&self.slots);
         } else {
@@ -232,10 +232,10 @@ impl Wheel {
         if now.get() < early {
             return None;
         }
-        if now.get() == early && first < 1024 {
-            return Some(ItemId { number: first });
+        match first {
+            Some(number) if now.get() == early => Some(ItemId { number }),
+            _ => self.search_due(now),
         }
-        self.search_due(now)
     }
 
     // The first item that is due, whatever has passed.

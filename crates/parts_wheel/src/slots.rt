@@ -6,7 +6,7 @@ ghost use Rattle.parts_wheel.specs.Slots.{IsEarly, IsLeastLater, IsFirstAt, AreS
 use crate::bits::Bits;
 use crate::moves::{file, put, refile, take, take_from};
 use crate::places::{is_near, list_for};
-use crate::walks::{NO_ITEM, Next, first_of_few, least_in};
+use crate::walks::{Next, first_of_few, least_in};
 use parts_filled::filled;
 use parts_links::Links;
 use std::alloc::{AllocError, Global};
@@ -253,7 +253,7 @@ impl Slots {
             Some(list) => least_in(&self.links, &self.dues, list, early),
             None => Next {
                 tick: u64::MAX,
-                first: NO_ITEM,
+                first: None,
             },
         }
     }

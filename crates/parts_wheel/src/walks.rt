@@ -7,15 +7,12 @@ ghost use Rattle.parts_wheel.specs.Moves.{IsDue};
 use parts_links::Links;
 use words_numbers::Tick;
 
-/// No item's number.
-pub(crate) const NO_ITEM: u32 = u32::MAX;
-
-/// The least due tick of some items, the last number where there are none, and the least number of an item that is due then, or no item's
-/// where that is not known.
+/// The least due tick of some items, the last number where there are none, and the item of the least number that is due then, where it is
+/// known.
 #[derive(Clone, Copy)]
 pub struct Next {
     pub(crate) tick: u64,
-    pub(crate) first: u32,
+    pub(crate) first: Option<u32>,
 }
 
 /// What is due next of the items in one list, of which none is due before that tick. The walk ends where a second is due then.
@@ -30,12 +27,12 @@ pub(crate) fn least_in(links: &Links, dues: &[Option<Tick>], list: u32, early: u
     links.stand_once();
     let mut next = Next {
         tick: u64::MAX,
-        first: NO_ITEM,
+        first: None,
     };
     let mut at = links.front(list);
     while let Some(node) = at {
         next = sooner(next, node, dues[node as usize]);
-        if next.tick == early && next.first == NO_ITEM {
+        if next.tick == early && next.first.is_none() {
             return next;
         }
         at = links.next(node);
@@ -51,31 +48,22 @@ fn sooner(next: Next, node: u32, due: Option<Tick>) -> Next
     match due {
         Some(tick) if tick.get() < next.tick => Next {
             tick: tick.get(),
-            first: node,
+            first: Some(node),
         },
         Some(tick) if tick.get() == next.tick => Next {
             tick: next.tick,
-            first: NO_ITEM,
+            first: None,
         },
         _ => next,
     }
 }
 
-/// How many nodes behind the first `least_of_few` looks at.
+/// How many nodes behind the first `first_of_few` looks at.
 const FEW: u32 = 7;
 
-/// The least number of a node in a list of few. No item's where there are more, or none at all.
+/// The least number of a node in a list of few. None where there are more, or none at all.
 #[inline(always)]
-pub(crate) fn first_of_few(links: &Links, list: u32) -> u32
-    requires list { list < length links.now.lists }
-    ensures { result < 1024 → IsLeastNode (list_at links.now.lists list) result }
-{
-    least_of_few(links, list).unwrap_or(NO_ITEM)
-}
-
-// The same, None where there are more, or none at all.
-#[inline(always)]
-fn least_of_few(links: &Links, list: u32) -> Option<u32>
+pub(crate) fn first_of_few(links: &Links, list: u32) -> Option<u32>
     requires list { list < length links.now.lists }
     ensures { IfSome result (λ n. IsLeastNode (list_at links.now.lists list) n) }
 {

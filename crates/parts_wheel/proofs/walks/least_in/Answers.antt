@@ -38,8 +38,8 @@ loop-at-preserved c =
       λ m e. let h = follower_stands n m xs (sym next ∙ e) in (c.stand_once.ensures.small m k c.requires.list h, h),
     )
 
-pub returns-then-next-clause-least : goal.returns-then-next-clause-least
-returns-then-next-clause-least c =
+pub returns-then-is_none-clause-least : goal.returns-then-is_none-clause-least
+returns-then-is_none-clause-least c =
     let l = c.args.links.now in let k = c.args.list in let xs = list_at l.lists k in let n = c.in-Some.node in let stands = (c.loop-at.invariant.1 n c.in-Some.is).1 in
     let o = c.requires.armed n stands in let inside = armed_inside c.args.dues.now n o.0 o.1 in
     let walked = walk_on c.args.dues.now xs c.loop-at.at _ (follower n xs) n o.0 c.loop-at.next.tick c.loop-at.next.first c.sooner-next.result.tick c.sooner-next.result.first (c.stand_once.ensures.distinct k c.requires.list) c.in-Some.is stands refl o.1

@@ -1,8 +1,8 @@
 use Rattle.std.proofs.Common.{ℕ, List, Option, subst, sym}
 use Rattle.parts_links.specs.Links.{list_at}
-use Rattle.parts_wheel.specs.Slots.{Placed, IsEarly, IsLeastOf}
+use Rattle.parts_wheel.specs.Slots.{Placed, IsEarly, IsLeastOf, IsLoneOf}
 use Rattle.parts_wheel.specs.Moves.{IsDue}
-use Rattle.parts_wheel.proofs.Holding.{no_later, least_at_lowest}
+use Rattle.parts_wheel.proofs.Holding.{no_later, least_at_lowest, lone_first}
 use Rattle.parts_wheel.proofs.slots.Slots.least_far.Goals as goal
 
 pub least_in-requires-clause-armed : goal.least_in-requires-clause-armed
@@ -24,3 +24,9 @@ pub returns-in-None-clause-later : goal.returns-in-None-clause-later
 returns-in-None-clause-later c =
     let s = c.self.inside in let i = c.self.invariant in
     rw (← c.self.view_is) (no_later s.base s.dues.items s.links.lists s.occupied s.passed i.filed i.marked c.in-None.ensures)
+
+pub returns-in-Some-clause-first : goal.returns-in-Some-clause-first
+returns-in-Some-clause-first c =
+    let s = c.self.inside in let i = c.self.invariant in
+    let of = subst (λ (ds : List (Option ℕ)). IsLoneOf ds (list_at s.links.lists c.in-Some.list) c.least_in.result.tick c.least_in.result.first) c.deref.ensures.value c.least_in.ensures.lone in
+    rw (← c.self.view_is) (lone_first s.base c.in-Some.list c.least_in.result.tick c.least_in.result.first s.dues.items s.links.lists s.passed i.filed of)

@@ -3,7 +3,7 @@ use Rattle.parts_links.specs.Links.{list_at}
 use Rattle.parts_links.proofs.Walks.{head_stands, follower_stands, follows_in}
 use Rattle.parts_links.proofs.Standing.{on_at}
 use Rattle.parts_wheel.proofs.Walking.{passed_start, passed_step}
-use Rattle.parts_wheel.proofs.walks.least_of_few.Goals as goal
+use Rattle.parts_wheel.proofs.walks.first_of_few.Goals as goal
 
 pub loop-at-init : goal.loop-at-init
 loop-at-init c =

@@ -1,7 +1,7 @@
 use Rattle.std.proofs.Common.{◌≡◌, ◌<◌, ℕ, Some, true}
 use Rattle.parts_links.specs.Links.{list_at, stands_in}
 use Rattle.parts_wheel.proofs.Walking.{IsLeastPassed}
-use Rattle.parts_wheel.proofs.walks.least_of_few.Given as goal
+use Rattle.parts_wheel.proofs.walks.first_of_few.Given as goal
 
 abbrev pub invariant-loop-at : goal.invariant-loop-at
 invariant-loop-at l = IsLeastPassed (list_at l.links.lists l.list) l.at l.least
