@@ -3,7 +3,7 @@ from __future__ import annotations
 
 from dataclasses import dataclass, field
 
-from .log import MARKERS, WAKES, Entry
+from .log import MARKER, SWITCH_EVENT, WAKES, Entry
 from .names import OTHER, NameMap
 
 MARKED = {"activate": 1, "exhaust": 0, "plan": 2, "refill": 2, "cancel": 0}
@@ -33,18 +33,18 @@ class Converter:
         """One entry, at the instant that is nearest to its time."""
         now = self.names.ticks(entry.time)
         fields = entry.fields
-        if entry.event == "sched_switch" and fields:
+        if entry.event == SWITCH_EVENT and fields:
             self.switch(now, fields)
         elif entry.event in WAKES and fields:
             self.begin(now, self.names.name_of(fields["comm"], fields["pid"]))
         elif entry.event == "sched_process_exit" and fields:
             self.finish(now, self.names.name_of(fields["comm"], fields["pid"]))
-        elif entry.event in MARKERS:
-            self.mark(now, entry.text.split())
+        elif marker := MARKER.fullmatch(entry.text):
+            self.mark(now, marker["words"].split())
 
     def switch(self, now: int, fields: dict[str, str]) -> None:
         """Another thread gets the processor; one that left it for good has ended."""
-        if fields["prev_state"][0] in "XZ":
+        if fields["prev_state"][0] in "XZx":
             self.finish(now, self.names.name_of(fields["prev_comm"], fields["prev_pid"]))
         name = self.names.name_of(fields["next_comm"], fields["next_pid"])
         self.begin(now, name)
@@ -98,22 +98,29 @@ class Converter:
         return f"{line} high {high} init {init} refilled {refilled} capacity {capacity}"
 
 
-def converted(entries: list[Entry], names: NameMap) -> Converter:
-    """The trace of a log. Without an origin in the map the first entry is at instant 0. Raises NoLog."""
+def kept(entries: list[Entry], names: NameMap) -> list[Entry]:
+    """What counts of a log. Without an origin in the map the first entry of its processor is at instant 0. Raises NoLog."""
     if not entries:
         raise NoLog("standard input has no line of ftrace's text")
-    kept = [entry for entry in entries if names.cpu is None or entry.cpu == names.cpu]
-    if not kept:
+    found = [entry for entry in entries if names.cpu is None or entry.cpu == names.cpu]
+    if not found:
         raise NoLog(f"no line of the log is of processor {names.cpu}, which the map names")
     if names.origin is None:
-        names.origin = kept[0].time
-    converter = Converter(names)
-    kept = [entry for entry in kept if entry.time >= names.origin]
-    if not kept:
+        names.origin = found[0].time
+    found = [entry for entry in found if entry.time >= names.origin]
+    if not found:
         raise NoLog("the whole log is before the origin that the map names")
-    for entry in kept:
+    if not any(entry.event == SWITCH_EVENT and entry.fields for entry in found):
+        raise NoLog("no line that counts is a sched_switch in ftrace's own text; of trace-cmd it is `trace-cmd report -N`")
+    return found
+
+
+def converted(entries: list[Entry], names: NameMap) -> Converter:
+    """The trace of those entries of a log that count."""
+    converter = Converter(names)
+    for entry in entries:
         converter.take(entry)
-    converter.end = names.ticks(kept[-1].time)
+    converter.end = names.ticks(entries[-1].time)
     converter.charge(converter.end)
     return converter
 

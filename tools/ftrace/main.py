@@ -5,7 +5,8 @@ from pathlib import Path
 
 from command import Status, Words, carried_out, say, standard_input, write
 
-from .convert import NoLog, converted, head_of
+from .convert import NoLog, converted, head_of, kept
+from .doubts import doubts
 from .log import read_log
 from .names import WrongMap, read_map
 
@@ -20,8 +21,10 @@ def carry_out(words: list[str]) -> Status:
     parser.add_argument("--trace", action="store_true", help="write the trace alone, as for pse52-view")
     said = parser.read(words)
     names = read_map(said.map.read_text(errors="replace"))
-    found = converted(read_log(standard_input().read().decode(errors="replace")), names)
-    for remark in found.remarks():
+    text = standard_input().read().decode(errors="replace")
+    entries = kept(read_log(text), names)
+    found = converted(entries, names)
+    for remark in [*doubts(text, entries, names), *found.remarks()]:
         say(TOOL, remark)
     return write(TOOL, found.text() if said.trace else f"{head_of(names)}%%\n{found.text()}")
 

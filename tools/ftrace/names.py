@@ -3,10 +3,12 @@ from __future__ import annotations
 
 import re
 from dataclasses import dataclass, field
-from decimal import Decimal, InvalidOperation
+from decimal import Decimal
 
 NAME = re.compile(r"[a-z][a-z0-9_]{0,31}")
 OTHER = "other"
+# What a trace calls the processor that nobody of the map has; no thread can be called so.
+TAKEN = (OTHER, "idle")
 
 
 class WrongMap(Exception):
@@ -52,7 +54,7 @@ def read_map(text: str) -> NameMap:
         try:
             if words:
                 take(found, words)
-        except (ValueError, InvalidOperation):
+        except (ValueError, ArithmeticError):
             raise WrongMap(f"line {number} of the map: {line.strip()}") from None
     if found.tick <= 0:
         raise WrongMap("the map has no line `tick MICROSECONDS`")
@@ -77,6 +79,6 @@ def take(found: NameMap, words: list[str]) -> None:
 
 
 def add(found: NameMap, name: str, of: str) -> None:
-    if not NAME.fullmatch(name) or name == OTHER or name in found.names.values() or of in found.names:
+    if not NAME.fullmatch(name) or name in TAKEN or name in found.names.values() or of in found.names:
         raise ValueError
     found.names[of] = name

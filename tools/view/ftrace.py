@@ -1,5 +1,5 @@
 """The text of Linux's ftrace, as /sys/kernel/tracing/trace and `trace-cmd report` print it: sched_switch, sched_waking, sched_wakeup
-and sched_process_exit on one processor. A tick is written as a nanosecond, or as --tick says; times have nine digits behind the
+and sched_process_exit on one processor. A tick is written as a microsecond, or as --tick says; times have nine digits behind the
 point.
 
 A thread has the pid 1001 and so on in the order of declaration. Linux prints priorities so that a lower number is more urgent:

@@ -6,7 +6,8 @@ import sys
 import unittest
 from pathlib import Path
 
-from ftrace.convert import NoLog, converted, head_of
+from ftrace.convert import NoLog, converted, head_of, kept
+from ftrace.doubts import doubts
 from ftrace.log import read_log
 from ftrace.names import WrongMap, read_map
 
@@ -39,7 +40,12 @@ thread urgent ticks 12
 
 def input_of(log: str) -> bytes:
     names = read_map((HERE / "server.map").read_text())
-    return f"{head_of(names)}%%\n{converted(read_log(log), names).text()}".encode()
+    return f"{head_of(names)}%%\n{converted(kept(read_log(log), names), names).text()}".encode()
+
+
+def doubts_of(log: str, names: str) -> list[str]:
+    read = read_map(names)
+    return doubts(log, kept(read_log(log), read), read)
 
 
 class Ftrace(unittest.TestCase):
@@ -65,23 +71,64 @@ class Ftrace(unittest.TestCase):
 
     def test_an_origin_leaves_out_what_is_before_it(self) -> None:
         names = read_map("tick 1000\norigin 100.013\nthread server 811\n")
-        lines = converted(read_log(self.log), names).text().splitlines()
+        lines = converted(kept(read_log(self.log), names), names).text().splitlines()
         self.assertEqual(lines[:3], ["0 start server", "0 dispatch server 8", "2 exhaust server"])
 
     def test_wrong_maps(self) -> None:
-        for text in ("thread a 1\n", "tick 0\n", "tick x\n", "tick 1\nthread A 1\n", "tick 1\nthread a 1\nthread a 2\n", "tick 1\nfoo\n"):
+        for text in ("thread a 1\n", "tick 0\n", "tick x\n", "tick 1\nthread A 1\n", "tick 1\nthread a 1\nthread a 2\n", "tick 1\nfoo\n",
+                     "tick inf\n", "tick 1e9999999\n", "tick 1\norigin inf\n", "tick 1\nthread idle 1\n", "tick 1\nthread other 1\n"):
             with self.assertRaises(WrongMap):
                 read_map(text)
 
     def test_what_is_no_log(self) -> None:
         for text, part in (("tick 1\n", "no line of ftrace's text"), ("tick 1\ncpu 7\n", "processor 7"), ("tick 1\norigin 999\n", "before the origin")):
             with self.assertRaisesRegex(NoLog, part):
-                converted(read_log("" if part.startswith("no") else self.log), read_map(text))
+                kept(read_log("" if part.startswith("no line of ftrace") else self.log), read_map(text))
 
     def test_what_the_map_and_the_log_do_not_share(self) -> None:
         names = read_map("tick 1000\nserver ghost 4711 10 3 4\nthread urgent urgent_task\n")
-        self.assertEqual(converted(read_log(self.log), names).remarks(),
+        self.assertEqual(converted(kept(read_log(self.log), names), names).remarks(),
                          ["no line of the log has '4711', which the map calls ghost", "a marker names 'server', which the map does not"])
+
+    def test_a_log_without_switches_is_no_log(self) -> None:
+        report = self.log.replace("prev_comm=", "").replace(" ==> next_comm=", " ==> ")
+        with self.assertRaisesRegex(NoLog, "sched_switch"):
+            kept(read_log(report), read_map("tick 1000\n"))
+
+    def test_markers_of_the_kernel_and_of_trace_cmd(self) -> None:
+        for other in ("dl_task_tick+0x1c/0x90", "print: tracing_mark_write", "bprint:   server_tick"):
+            changed = self.log.replace("tracing_mark_write", other)
+            self.assertEqual(input_of(changed).decode(), f"server server 10 3 4\n%%\n{TRACE}", other)
+
+    def test_an_end_in_the_letter_of_an_older_kernel(self) -> None:
+        self.assertEqual(input_of(self.log.replace("prev_state=X", "prev_state=x")), input_of(self.log))
+
+    def test_a_good_log_leaves_no_doubt(self) -> None:
+        self.assertEqual(doubts_of(self.log, (HERE / "server.map").read_text()), [])
+
+    def test_events_that_the_kernel_lost(self) -> None:
+        lines = self.log.splitlines(keepends=True)
+        for lost in ("CPU:0 [LOST 523 EVENTS]\n", "CPU:1 [LOST EVENTS]\n", "CPU:0 [12 EVENTS DROPPED]\n"):
+            self.assertEqual(doubts_of("".join([*lines[:8], lost, *lines[8:]]), "tick 1000\ncpu 0\n"),
+                             ["the kernel lost events at one line of the log: the trace lacks what was there"], lost)
+
+    def test_switches_of_two_processors(self) -> None:
+        self.assertEqual(doubts_of(self.log, "tick 1000\n"),
+                         ["the log has switches of processors 0, 1, and a trace has one: name it in the map, as `cpu 0`"])
+
+    def test_lines_that_could_not_be_read(self) -> None:
+        broken = self.log.replace("comm=urgent_task pid=812 prio=90 target_cpu=000", "urgent_task:812 [90]", 1)
+        self.assertEqual(doubts_of(broken, "tick 1000\ncpu 0\n"), ["one line could not be read, the first: sched_wakeup: urgent_task:812 [90]"])
+
+    def test_markers_that_say_nothing(self) -> None:
+        wrong = self.log.replace("pse52 exhaust server", "pse52 exhausted server")
+        self.assertEqual(doubts_of(wrong, "tick 1000\ncpu 0\n"), ["2 lines of markers say nothing of a server, the first: pse52 exhausted server"])
+
+    def test_two_threads_of_one_command_name(self) -> None:
+        shared = self.log.replace("urgent_task", "server")
+        self.assertEqual(doubts_of(shared, "tick 1000\ncpu 0\nthread both server\n"),
+                         ["2 threads of the log are called 'server', and the map makes one of them, both: name it by its number"])
+        self.assertEqual(doubts_of(shared, "tick 1000\ncpu 0\nthread both server\nthread one 812\n"), [])
 
     def test_wrong_words_and_files(self) -> None:
         for words, text, status, part in (([], "", 1, "--help"), (["none.map"], "", 4, "none.map was not read"),
@@ -93,7 +140,12 @@ class Ftrace(unittest.TestCase):
     def test_the_command(self) -> None:
         done = subprocess.run([TOP / "bin" / "pse52-from-ftrace", "--trace", HERE / "server.map"], input=self.log, text=True,
                               capture_output=True, check=True)
-        self.assertEqual(done.stdout, TRACE)
+        self.assertEqual((done.stdout, done.stderr), (TRACE, ""))
+
+    def test_the_command_says_its_doubts(self) -> None:
+        done = subprocess.run([TOP / "bin" / "pse52-from-ftrace", HERE / "server.map"], input=f"CPU:0 [LOST EVENTS]\n{self.log}", text=True,
+                              capture_output=True, check=True)
+        self.assertIn("pse52-from-ftrace: the kernel lost events", done.stderr)
 
 
 if __name__ == "__main__":
