@@ -109,10 +109,22 @@ divided() {
     number=${told#* }
     number=${number%%[!0-9]*}
     case $status in 7 | 9) ;; *) number= ;; esac
-    if [ -n "$number" ] && { [ -n "$explains" ] || [ -t 2 ]; }; then
-        say "line $number of $3: $(sed -n "${number}p" "$3")"
+    if [ -n "$number" ] && [ -f "$3" ] && { [ -n "$explains" ] || [ -t 2 ]; }; then
+        say "line $number of $3: $(shown_line "$number" "$3")"
     fi
     exit "$status"
+}
+
+# Line $1 of the file $2, and what of it the eye does not see.
+shown_line() {
+    LC_ALL=C awk -v number="$1" -v unended="$(tail -c 1 "$2" | tr -d '\n')" 'NR == number { line = $0 }
+    END {
+        if (NR < number) { print "the file ends before it"; exit }
+        note = NR == number && unended != "" ? " (its line end is missing)" : line ~ /[ \t]$/ ? " (a blank stands at its end)" : ""
+        if (sub(/\r$/, "", line)) note = " (it ends with byte 13, as lines of Windows do)"
+        gsub(/[^ -~]/, "?", line)
+        print line note
+    }' "$2"
 }
 
 # The command that a misspelt word was to be, if one is near: the same letters but one, or two that changed places.

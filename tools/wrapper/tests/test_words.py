@@ -85,6 +85,17 @@ class Words(unittest.TestCase):
         self.assertIn("line 2 of t.trace: two\n", ended.err)
         self.assertEqual(self.checkout.run("check", "7", "s.task", "t.trace").err, "")
 
+    def test_what_the_eye_does_not_see_of_a_line_is_told(self) -> None:
+        self.checkout.put_built()
+        self.checkout.write("crates/pse52/out/pse52", "#!/bin/sh\nprintf 'differs 2\\nwant two\\nhave text\\n'\nexit 7\n")
+        subprocess.run(["sh", str(self.checkout.top / "tools/wrapper/record.sh"), self.checkout.sum("sources")], check=True)
+        for trace, shown in (("one\ntwo\r\n", "two (it ends with byte 13, as lines of Windows do)"), ("one\ntwo \n", "two  (a blank stands at its end)"),
+                             ("one\ntwo", "two (its line end is missing)"), ("one\n", "the file ends before it"), ("", "the file ends before it"),
+                             ("one\nt\x1bo\nthree", "t?o"), ("one\n\n", "")):
+            (self.checkout.top / "t.trace").write_bytes(trace.encode())
+            ended = self.checkout.run("check", "7", "s.task", "t.trace", "--explain")
+            self.assertIn(f"line 2 of t.trace: {shown}\n", ended.err, trace)
+
     def test_a_line_that_breaks_a_rule_is_shown(self) -> None:
         self.checkout.put_built()
         self.checkout.write("crates/pse52/out/pse52", "#!/bin/sh\nprintf 'breach 2 4\\n'\nexit 9\n")
