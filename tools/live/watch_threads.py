@@ -3,7 +3,7 @@ from __future__ import annotations
 
 from reader import policy_of
 from script import Call, Res, Rr
-from state import Thread, ThreadState, WaitKind
+from state import Thread, ThreadState, Wait, WaitKind
 
 from .watch import Watched, Watcher
 
@@ -95,6 +95,48 @@ class SchedulingWatcher(Watcher):
         equals = self.machine.lists[priority]
         if created.state is ThreadState.DORMANT and priority < self.machine.assigned(thread) and equals:
             self.note("created-at-the-head")
+
+
+class PlaceWatcher(Watcher):
+    """Waiters whose priority is another one than that by which this kernel put them in a line, while others stand there too."""
+
+    QUEUES = (WaitKind.SEND, WaitKind.RECEIVE)  #: whoever comes to one is put before all that are less urgent just then
+    OTHERS = (WaitKind.MUTEX, WaitKind.COND, WaitKind.SEM)
+
+    def __init__(self, machine: Watched) -> None:
+        super().__init__(machine)
+        self.places: dict[int, int] = {}  #: of each waiter the priority by which it stands
+
+    def before_block(self, thread: Thread, wait: Wait) -> None:
+        self.places[thread.number] = self.machine.exec(thread) if wait.kind in self.QUEUES else self.machine.assigned(thread)
+
+    def before_run(self, thread: Thread) -> None:
+        for waiter in self.machine.threads:
+            if waiter.waits_in(*self.QUEUES):
+                self.at_queue(waiter)
+            elif waiter.waits_in(*self.OTHERS) and self.is_in_line(waiter) and not self.is_sorted_anew(waiter):
+                self.at_line(waiter)
+
+    def at_queue(self, waiter: Thread) -> None:
+        priority = self.machine.exec(waiter)
+        if not self.is_in_line(waiter):
+            self.places[waiter.number] = priority
+        elif priority != self.places[waiter.number]:
+            self.note("waiter-keeps-its-place")
+
+    def at_line(self, waiter: Thread) -> None:
+        if self.machine.assigned(waiter) != self.places[waiter.number]:
+            self.note("waiter-keeps-its-place")
+        if self.machine.exec(waiter) != self.machine.base(waiter) and not waiter.waits_in(WaitKind.COND):
+            self.note("boost-not-counted")
+
+    def is_in_line(self, waiter: Thread) -> bool:
+        """Whether others wait where it waits."""
+        return any(other is not waiter and other.waits_in(waiter.wait.kind) and other.wait.target == waiter.wait.target
+                   for other in self.machine.threads)
+
+    def is_sorted_anew(self, waiter: Thread) -> bool:
+        return waiter.waits_in(WaitKind.MUTEX) and self.machine.mutexes[waiter.wait.target].kind.inherit
 
 
 class LifeWatcher(Watcher):

@@ -6,10 +6,11 @@ from script import Script
 from .watch import Watched, Watcher
 from .watch_mutexes import ConditionWatcher, MutexWatcher, SemaphoreWatcher
 from .watch_signals import DeferredWatcher, QueueWatcher, SignalWatcher, TimerWatcher
-from .watch_threads import LifeWatcher, SchedulingWatcher, WakeWatcher
+from .watch_threads import LifeWatcher, PlaceWatcher, SchedulingWatcher, WakeWatcher
 
 WATCHERS: list[type[Watcher]] = [
-    MutexWatcher, ConditionWatcher, SemaphoreWatcher, WakeWatcher, SchedulingWatcher, LifeWatcher, SignalWatcher, TimerWatcher, QueueWatcher]
+    MutexWatcher, ConditionWatcher, SemaphoreWatcher, WakeWatcher, SchedulingWatcher, PlaceWatcher, LifeWatcher, SignalWatcher, TimerWatcher,
+    QueueWatcher]
 
 
 def watched(script: Script, horizon: int, handlers_in_waits: bool = False) -> Watched:
