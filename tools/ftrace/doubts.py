@@ -1,16 +1,18 @@
 """Why the lines that were made of a log may not be what the kernel did, though each of them could be read."""
 from __future__ import annotations
 
-from .convert import MARKED, TOTALS
+from .convert import MARKED, TOTALS, kept
 from .log import MARKER, SWITCH_EVENT, WAKES, Entry, losses
 from .names import NameMap
 
 NUMBERS = {**MARKED, TOTALS: 4}
 
 
-def doubts(text: str, entries: list[Entry], names: NameMap) -> list[str]:
-    """What the reader of a trace should know of its log: `entries` are those that count of the text."""
-    return [*of_losses(text), *of_processors(entries, names), *of_lines(entries), *of_markers(entries), *of_shared_names(entries, names)]
+def doubts(text: str, read: list[Entry], names: NameMap) -> list[str]:
+    """What the reader of a trace should know of its log, the text of which has been read. Raises NoLog."""
+    entries = kept(read, names)
+    return [*of_losses(text), *of_processors(entries, names), *of_lines(entries), *of_markers(entries), *of_other_processors(read, names),
+            *of_shared_names(entries, names)]
 
 
 def of_losses(text: str) -> list[str]:
@@ -36,6 +38,14 @@ def of_markers(entries: list[Entry]) -> list[str]:
     words = [marker["words"].split() for entry in entries if (marker := MARKER.fullmatch(entry.text))]
     wrong = [found for found in words if len(found) < 3 or NUMBERS.get(found[1]) != len(found) - 3]
     return [f"{places(len(wrong))} of markers say nothing of a server, the first: {' '.join(wrong[0])}"] if wrong else []
+
+
+def of_other_processors(read: list[Entry], names: NameMap) -> list[str]:
+    """What a server does can be told on another processor than its own, as by a timer there."""
+    left_out = [entry for entry in read if entry.cpu != names.cpu and entry.time >= names.origin and MARKER.fullmatch(entry.text)]
+    if names.cpu is None or not left_out:
+        return []
+    return [f"left out, since of other processors than the map names: {places(len(left_out))} of markers, the first: {left_out[0].text}"]
 
 
 def of_shared_names(entries: list[Entry], names: NameMap) -> list[str]:

@@ -22,9 +22,9 @@ def carry_out(words: list[str]) -> Status:
     said = parser.read(words)
     names = read_map(said.map.read_text(errors="replace"))
     text = standard_input().read().decode(errors="replace")
-    entries = kept(read_log(text), names)
-    found = converted(entries, names)
-    for remark in [*doubts(text, entries, names), *found.remarks()]:
+    read = read_log(text)
+    found = converted(kept(read, names), names)
+    for remark in [*doubts(text, read, names), *found.remarks()]:
         say(TOOL, remark)
     return write(TOOL, found.text() if said.trace else f"{head_of(names)}%%\n{found.text()}")
 

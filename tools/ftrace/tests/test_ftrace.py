@@ -44,8 +44,7 @@ def input_of(log: str) -> bytes:
 
 
 def doubts_of(log: str, names: str) -> list[str]:
-    read = read_map(names)
-    return doubts(log, kept(read_log(log), read), read)
+    return doubts(log, read_log(log), read_map(names))
 
 
 class Ftrace(unittest.TestCase):
@@ -123,6 +122,11 @@ class Ftrace(unittest.TestCase):
     def test_markers_that_say_nothing(self) -> None:
         wrong = self.log.replace("pse52 exhaust server", "pse52 exhausted server")
         self.assertEqual(doubts_of(wrong, "tick 1000\ncpu 0\n"), ["2 lines of markers say nothing of a server, the first: pse52 exhausted server"])
+
+    def test_markers_of_another_processor(self) -> None:
+        moved = self.log.replace("[000] d.h2.   100.015008: tracing_mark_write", "[001] d.h2.   100.015008: tracing_mark_write")
+        self.assertEqual(doubts_of(moved, "tick 1000\ncpu 0\n"),
+                         ["left out, since of other processors than the map names: one line of markers, the first: pse52 refill server 3 3"])
 
     def test_two_threads_of_one_command_name(self) -> None:
         shared = self.log.replace("urgent_task", "server")
