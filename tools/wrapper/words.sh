@@ -96,7 +96,7 @@ open_input() {
 }
 
 # A script and a trace as one input, with the line between them: the command with its numbers, the script, the trace. Where the two differ,
-# or the trace breaks a rule, and somebody looks on, the line of the trace is shown.
+# or the trace breaks a rule, and somebody looks on, the line of the trace is shown; where the script is refused, the line of the script.
 divided() {
     open_input "$2"
     open_input "$3"
@@ -108,9 +108,9 @@ divided() {
     [ -z "$told" ] || printf '%s\n' "$told"
     number=${told#* }
     number=${number%%[!0-9]*}
-    case $status in 7 | 9) ;; *) number= ;; esac
-    if [ -n "$number" ] && [ -f "$3" ] && { [ -n "$explains" ] || [ -t 2 ]; }; then
-        say "line $number of $3: $(shown_line "$number" "$3")"
+    case $status in 2) file=$2 ;; 7 | 9) file=$3 ;; *) number= file= ;; esac
+    if [ -n "$number" ] && [ -f "$file" ] && { [ -n "$explains" ] || [ -t 2 ]; }; then
+        say "line $number of $file: $(shown_line "$number" "$file")"
     fi
     exit "$status"
 }

@@ -96,6 +96,17 @@ class Words(unittest.TestCase):
             ended = self.checkout.run("check", "7", "s.task", "t.trace", "--explain")
             self.assertIn(f"line 2 of t.trace: {shown}\n", ended.err, trace)
 
+    def test_a_line_of_the_script_that_is_refused_is_shown(self) -> None:
+        self.checkout.put_built()
+        self.checkout.write("crates/pse52/out/pse52", "#!/bin/sh\nprintf 'refused 2 1 BadByte\\n'\nexit 2\n")
+        subprocess.run(["sh", str(self.checkout.top / "tools/wrapper/record.sh"), self.checkout.sum("sources")], check=True)
+        self.checkout.write("head", "first\nsecond\n")
+        self.checkout.write("t.trace", "one\ntwo\n")
+        for words in (("check", "7", "head", "t.trace"), ("audit", "head", "t.trace")):
+            ended = self.checkout.run(*words, "--explain")
+            self.assertEqual((ended.status, ended.out), (2, "refused 2 1 BadByte\n"), words)
+            self.assertIn("line 2 of head: second\n", ended.err, words)
+
     def test_a_line_that_breaks_a_rule_is_shown(self) -> None:
         self.checkout.put_built()
         self.checkout.write("crates/pse52/out/pse52", "#!/bin/sh\nprintf 'breach 2 4\\n'\nexit 9\n")
