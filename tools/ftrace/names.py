@@ -7,6 +7,8 @@ from decimal import Decimal
 
 NAME = re.compile(r"[a-z][a-z0-9_]{0,31}")
 OTHER = "other"
+GREATEST = 10**18
+LINES = ("tick MICROSECONDS", "origin SECONDS", "cpu NUMBER", "thread NAME PID", "server NAME PID PERIOD BUDGET MAX")
 # What a trace calls the processor that nobody of the map has; no thread can be called so.
 TAKEN = (OTHER, "idle")
 
@@ -55,7 +57,9 @@ def read_map(text: str) -> NameMap:
             if words:
                 take(found, words)
         except (ValueError, ArithmeticError):
-            raise WrongMap(f"line {number} of the map: {line.strip()}") from None
+            raise WrongMap(f"line {number} of the map, '{line.strip()}': no number stands where one should") from None
+        except WrongMap as wrong:
+            raise WrongMap(f"line {number} of the map, '{line.strip()}': {wrong}") from None
     if found.tick <= 0:
         raise WrongMap("the map has no line `tick MICROSECONDS`")
     return found
@@ -65,6 +69,7 @@ def take(found: NameMap, words: list[str]) -> None:
     match words:
         case ["tick", length]:
             found.tick = int(Decimal(length) * 1000)
+            wants(found.tick > 0, "a tick has at least a nanosecond")
         case ["origin", seconds]:
             found.origin = nanoseconds(seconds)
         case ["cpu", number]:
@@ -73,12 +78,21 @@ def take(found: NameMap, words: list[str]) -> None:
             add(found, name, of)
         case ["server", name, of, period, budget, limit]:
             add(found, name, of)
-            found.servers[name] = Server(int(period), int(budget), int(limit))
+            server = found.servers[name] = Server(int(period), int(budget), int(limit))
+            wants(1 <= server.budget <= server.period <= GREATEST and 1 <= server.limit <= 16,
+                  "the budget is from 1 to the period, the period at most 10^18, and MAX from 1 to 16")
         case _:
-            raise ValueError
+            raise WrongMap(f"a line is one of {', '.join(LINES)}")
 
 
 def add(found: NameMap, name: str, of: str) -> None:
-    if not NAME.fullmatch(name) or name in TAKEN or name in found.names.values() or of in found.names:
-        raise ValueError
+    wants(NAME.fullmatch(name) is not None, "a name is a small letter, and then small letters, digits and _, at most 32")
+    wants(name not in TAKEN, "a trace calls what the map does not name so")
+    wants(name not in found.names.values(), "a line above has this name")
+    wants(of not in found.names, f"a line above has the thread {of}")
     found.names[of] = name
+
+
+def wants(holds: bool, what: str) -> None:
+    if not holds:
+        raise WrongMap(what)

@@ -74,9 +74,14 @@ class Ftrace(unittest.TestCase):
         self.assertEqual(lines[:3], ["0 start server", "0 dispatch server 8", "2 exhaust server"])
 
     def test_wrong_maps(self) -> None:
-        for text in ("thread a 1\n", "tick 0\n", "tick x\n", "tick 1\nthread A 1\n", "tick 1\nthread a 1\nthread a 2\n", "tick 1\nfoo\n",
-                     "tick inf\n", "tick 1e9999999\n", "tick 1\norigin inf\n", "tick 1\nthread idle 1\n", "tick 1\nthread other 1\n"):
-            with self.assertRaises(WrongMap):
+        for text, part in (
+                ("thread a 1\n", "no line `tick"), ("tick 0\n", "line 1 of the map, 'tick 0': a tick has"), ("tick -5\n", "a tick has"),
+                ("tick x\n", "no number"), ("tick inf\n", "no number"), ("tick 1e9999999\n", "no number"), ("tick 1\norigin inf\n", "line 2 .* no number"),
+                ("tick 1\nthread A 1\n", "a name is"), ("tick 1\nthread idle 1\n", "calls"), ("tick 1\nthread other 1\n", "calls"),
+                ("tick 1\nthread a 1\nthread a 2\n", "line 3 .* has this name"), ("tick 1\nthread a 1\nthread b 1\n", "has the thread 1"),
+                ("tick 1\nfoo\n", "a line is one of"), ("tick 1\nserver a 1 10 3\n", "server NAME PID PERIOD BUDGET MAX"),
+                ("tick 1\nserver a 1 10 30 4\n", "the budget"), ("tick 1\nserver a 1 10 0 4\n", "the budget"), ("tick 1\nserver a 1 10 3 17\n", "MAX")):
+            with self.assertRaisesRegex(WrongMap, part):
                 read_map(text)
 
     def test_what_is_no_log(self) -> None:
