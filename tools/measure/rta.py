@@ -15,8 +15,8 @@ from .jobs import SLEEP, Jobs, NamesNothing, periodic
 from .measures import Measure, jobs_of, shown
 from .seen import Seen
 from .tables import Table
-from .tasks import (
-    GREATEST_PERIOD, NoTask, Script, Stretch, Task, mutexes, stretches_of, tasks_of, whole_script_reasons)
+from .sections import Stretch, mutexes, stretches_of
+from .tasks import GREATEST_COST, GREATEST_PERIOD, NoTask, Script, Task, tasks_of, whole_script_reasons
 
 TOOL = "pse52-measure"
 GREATEST_BOUND = 100_000_000
@@ -91,10 +91,12 @@ class Analysis:
             if row.why is None:
                 row.blocking = max((longest_above(self._sections[other.task.name], row.task.priority)
                                     for other in self.rows if other.task.priority < row.task.priority), default=0)
+            if row.blocking > GREATEST_COST:
+                row.why = f"a thread below it may own a mutex for more than {GREATEST_COST} ticks"
 
     def _ceilings(self, task: Task) -> list[tuple[int, int]] | str:
         try:
-            return ceilings_of(self.script, task, stretches_of(self.script, task.name))
+            return ceilings_of(self.script, task, stretches_of(self.script, task.name, frozenset(shared(self.script, self._tasks))))
         except NoTask as why:
             return str(why)
 
@@ -102,18 +104,18 @@ class Analysis:
         """Why nothing can be said of a task that by itself is one: another thread stands in the way."""
         for row in self.rows:
             other = row.task
+            if isinstance(self._sections[other.name], str):
+                return f"'{other.name}' locks mutexes: {self._sections[other.name]}"
             if other is task:
                 continue
             if other.priority >= task.priority and other.why is not None:
                 return f"'{other.name}' is not below it: {other.why}"
             if other.priority == task.priority:
                 return f"'{other.name}' has the same priority"
-            if other.priority < task.priority and isinstance(self._sections[other.name], str) and other.locks:
-                return f"'{other.name}' locks mutexes: {self._sections[other.name]}"
         for number, users in shared(self.script, self._tasks).items():
             name, kind = mutexes(self.script)[number]
             lowest, highest = min(user.priority for user in users), max(user.priority for user in users)
-            if kind.ceiling is None and lowest < task.priority and (task in users or (kind.inherit and task.priority <= highest)):
+            if kind.ceiling is None and lowest < task.priority <= highest:
                 return f"'{name}' has no ceiling, and {', '.join(repr(user.name) for user in users)} lock it"
         return None
 

@@ -1,4 +1,4 @@
-"""The periodic tasks that the threads of a script are: periods, costs, sections of mutexes, and why a thread is none.
+"""The periodic tasks that the threads of a script are: periods, costs, and why a thread is none.
 
 A cost is at most what the steps of a job can take: each call and each jump back takes a tick, a loop all its passes, and a
 test is taken to come true.
@@ -7,7 +7,7 @@ from __future__ import annotations
 
 import sys
 from collections.abc import Iterator
-from dataclasses import dataclass, field
+from dataclasses import dataclass
 from pathlib import Path
 
 sys.path.append(str(Path(__file__).resolve().parents[1] / "reference"))
@@ -27,15 +27,7 @@ CHANGING = frozenset(("setprio", "setsched", "cancel", "exit"))
 
 
 class NoTask(Exception):
-    """Why a thread is no periodic task, or why its sections of a mutex cannot be told."""
-
-
-@dataclass(frozen=True)
-class Stretch:
-    """Ticks that a thread runs, and the mutexes that it owns there."""
-
-    ticks: int
-    owned: frozenset[int]
+    """Why a thread is no periodic task, or why its sections of mutexes cannot be told."""
 
 
 @dataclass
@@ -48,7 +40,6 @@ class Task:
     cost: int = 0
     period: int | None = None
     jobs: int | None = 1
-    stretches: list[Stretch] = field(default_factory=list)
     locks: frozenset[int] = frozenset()
     why: str | None = None
 
@@ -57,7 +48,7 @@ class Costs:
     """What steps cost at most, in ticks."""
 
     def __init__(self, script: Script) -> None:
-        self._cleanups = [named.kind.body for named in script.objects(ObjectKind.CLEANUP)]
+        self._script = script
 
     def of(self, block: Block) -> int:
         return sum(map(self.step, block))
@@ -74,8 +65,9 @@ class Costs:
                 raise NoTask("a loop in its job has no end")
             case Loop(times, body):
                 return times * self.of(body) + times - 1
-            case Guard(cleanup, _, body, _):
-                return 2 + self.of(body) + self.of(self._cleanups[cleanup]) + 1
+            case Guard(_, _, body, _):
+                handler = handler_of(self._script, step)
+                return 2 + self.of(body) + (0 if handler is None else self.of(handler) + 1)
         return 0
 
 
@@ -87,6 +79,23 @@ def calls_in(block: Block) -> Iterator[Call]:
                 yield step
             case Test(_, _, body) | Loop(_, body) | Guard(_, _, body, _):
                 yield from calls_in(body)
+
+
+def handler_of(script: Script, guard: Guard) -> Block | None:
+    """The body of the cleanup handler that is run at the end of a block; None where its pop drops it."""
+    return script.objects(ObjectKind.CLEANUP)[guard.cleanup].kind.body if guard.pop.form.words[1] == "1" else None
+
+
+def mutex_calls(script: Script, block: Block) -> Iterator[Call]:
+    """The calls that lock or unlock in a block, in those within it and in the cleanup handlers that it runs."""
+    for step in block:
+        match step:
+            case Call() if step.word in LOCKS or step.word == "unlock":
+                yield step
+            case Test(_, _, body) | Loop(_, body):
+                yield from mutex_calls(script, body)
+            case Guard(_, _, body, _):
+                yield from mutex_calls(script, [*body, *(handler_of(script, step) or [])])
 
 
 def changes_register(block: Block) -> bool:
@@ -147,32 +156,6 @@ def may_wait(call: Call) -> bool:
     return call.word in WAITING
 
 
-def owned_stretches(block: Block, owned: frozenset[int], costs: Costs) -> tuple[list[Stretch], frozenset[int]]:
-    """The ticks of a block in their order, with the mutexes that the thread owns in each, and those that it owns behind it."""
-    found: list[Stretch] = []
-    for step in block:
-        match step:
-            case Call() if step.word in LOCKS:
-                found.append(Stretch(1, owned))
-                owned |= {step.operands[0]}
-            case Call() if step.word == "unlock":
-                found.append(Stretch(1, owned))
-                owned -= {step.operands[0]}
-            case Call() if may_wait(step) and owned:
-                raise NoTask(f"it waits in '{step.word}' while it owns a mutex")
-            case Test(_, _, body) | Loop(_, body) | Guard(_, _, body, _) if any(call.word in LOCKS or call.word == "unlock" for call in calls_in(body)):
-                inner, behind = owned_stretches(body, owned, costs)
-                if behind != owned:
-                    raise NoTask("a section of a mutex does not end in the block in which it begins")
-                passes = 2 if isinstance(step, Loop) else 1
-                found += [Stretch(1, owned), *inner] * passes
-            case Loop(None, body):
-                found += owned_stretches(body, owned, costs)[0]
-            case _:
-                found.append(Stretch(costs.step(step), owned))
-    return found, owned
-
-
 def tasks_of(text: bytes) -> tuple[Script, list[Task]]:
     """The script, and its threads as tasks in the order of declaration; `why` says of one why it is none."""
     script, fault = read(text)
@@ -196,7 +179,7 @@ def _body(declaration: object) -> Block:
 def _task(script: Script, name: str, kind: ThreadKind, costs: Costs) -> Task:
     priority = kind.policy.priority if isinstance(kind.policy, (Fifo, Rr)) else kind.policy.high
     task = Task(name, priority, kind.start or 0)
-    task.locks = frozenset(call.operands[0] for call in calls_in(kind.body) if call.word in LOCKS)
+    task.locks = frozenset(call.operands[0] for call in mutex_calls(script, kind.body) if call.word in LOCKS)
     try:
         if not isinstance(kind.policy, (Fifo, Rr)):
             raise NoTask("it has a server")
@@ -226,13 +209,3 @@ def whole_script_reasons(script: Script) -> str | None:
             if call.word in CHANGING:
                 return f"'{call.word}' changes what threads there are, or their priorities"
     return None
-
-
-def mutexes(script: Script) -> list[tuple[str, MutexKind]]:
-    return [(named.name, named.kind) for named in script.objects(ObjectKind.MUTEX)]
-
-
-def stretches_of(script: Script, name: str) -> list[Stretch]:
-    """The ticks of a thread's body with the mutexes that it owns in each. Raises NoTask where they cannot be told."""
-    kind = next(named.kind for named in script.objects(ObjectKind.THREAD) if named.name == name)
-    return owned_stretches(kind.body, frozenset(), Costs(script))[0]

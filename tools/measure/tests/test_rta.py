@@ -62,9 +62,41 @@ class Tasks(unittest.TestCase):
                   + thread("low", 2, "lock n\nrun 2\nlock m\nrun 3\nunlock m\nunlock n", 50))
         self.assertEqual({name: row[3] for name, row in analysed(script).items()}, {"high": 4, "mid": 8, "low": 0})
 
+    def test_blocking_by_all_passes_a_recursive_mutex_and_a_cleanup(self) -> None:
+        """What comes behind an inner section counts too, while the outer mutex is owned: five passes with their four jumps, and so on."""
+        high = thread("high", 9, "lock m\nunlock m", 50)
+        for declared, job, blocking in (
+                ("mutex m protect 9\nmutex k protect 5\n", "lock m\nloop 5\nlock k\nunlock k\nend\nunlock m", 15),
+                ("mutex m protect 9 recursive\n", "lock m\nlock m\nunlock m\nrun 20\nunlock m", 23),
+                ("mutex m protect 9\nmutex k protect 9\ncleanup u\nrun 10\nend\n", "lock m\npush u\nlock k\nunlock k\npop 1\nunlock m", 16),
+                ("mutex m protect 9\nmutex k protect 9\ncleanup u\nrun 10\nend\n", "lock m\npush u\nlock k\nunlock k\npop 0\nunlock m", 5),
+                ("mutex m protect 9\ncleanup u\nunlock m\nend\n", "lock m\npush u\nrun 4\npop 1", 7),
+                ("mutex m protect 9\n", "lock m\ngettime\nif 0\nlock m\nend\nunlock m", 3)):
+            rows = whole(declared + high.replace("at 0", "at 3").replace("set 0", "set 3") + thread("low", 2, job, 100), 400).rows
+            self.assertEqual((rows[0].why, rows[0].blocking), (None, blocking), job)
+            self.assertNotEqual(rows[0].verdict, "longer than proved", job)
+
+    def test_where_a_mutex_is_kept(self) -> None:
+        """Whoever waits or goes on without end while it owns a mutex keeps others from it for nobody knows how long, also those above all."""
+        high = "mutex m protect 9\n" + thread("high", 9, "lock m\nrun 1\nunlock m", 10)
+        for low in ("thread low fifo 5 at 0\nset 0\nlock m\nforever\nunlock m\nlock m\nadd 100\nclock_nanosleep reg\nend\nend\n",
+                    "thread low fifo 5 at 0\nlock m\nforever\nrun 1\nend\nend\n", "thread low fifo 5 at 0\nlock m\nend\n"):
+            rows = Analysis((high + low + thread("z", 1, "run 3", 100)).encode(), {}).rows
+            self.assertNotIn(None, [row.why for row in rows], low)
+        # mid waits for m while it owns p; low then has the priority that p gave to mid, which is above x.
+        chain = ("mutex p protect 20\nmutex m inherit\n" + thread("x", 15, "lock p\nunlock p", 40) + thread("low", 2, "lock m\nrun 20\nunlock m", 200)
+                 + thread("mid", 8, "lock p\nlock m\nunlock m\nunlock p", 100))
+        self.assertFalse(analysed(chain)["x"][4])
+        long = high + "thread low fifo 2 at 0\nlock m\nrun 2000000\nunlock m\nend\n"
+        self.assertIn("for more than 1000000 ticks", Analysis(long.encode(), {}).rows[0].why)
+
+    def test_a_loop_without_end_that_locks_nothing(self) -> None:
+        low = "thread low fifo 2 at 0\nyield\nif EINTR\nforever\nrun 1\nend\nend\nend\n"
+        self.assertEqual([row[4] for row in analysed(thread("high", 9, "run 1", 20) + low).values()], [True, False])
+
     def test_where_the_analysis_does_not_apply(self) -> None:
         shared = thread("high", 9, "lock m\nunlock m", 50) + thread("mid", 5, "run 1", 50) + thread("low", 2, "lock m\nrun 3\nunlock m", 50)
-        for protocol, applies in (("none", [False, True, True]), ("inherit", [False, False, True]), ("protect 9", [True, True, True])):
+        for protocol, applies in (("none", [False, False, True]), ("inherit", [False, False, True]), ("protect 9", [True, True, True])):
             self.assertEqual([row[4] for row in analysed(f"mutex m {protocol}\n" + shared).values()], applies, protocol)
         server = thread("a", 9, "run 1", 50) + "thread s sporadic 5 2 20 3 4 at 0\nrun 1\nend\n" + thread("b", 3, "run 1", 50)
         self.assertEqual([row[4] for row in analysed(server).values()], [True, False, False])
