@@ -98,7 +98,7 @@ def _thread(thread: ThreadLine, points: Points) -> dict[str, object]:
     return {
         "name": thread.name, "spans": [_span(span, number) for span in thread.spans],
         "marks": [[number[mark.time], mark.kind.value, mark.label] for mark in thread.marks if mark.kind is not MarkKind.RETURN],
-        "server": thread.is_sporadic, "ended": None if thread.ended is None else number[thread.ended],
+        "server": thread.is_sporadic, "ended": 0 if thread.over else None if thread.ended is None else number[thread.ended],
         "capacity": [[number[piece.start], number[piece.end], str(piece.value), piece.falls] for piece in thread.capacity],
         "plans": [[number[plan.time], str(plan.amount), str(plan.due), number.get(plan.due, -1), -1 if plan.refilled is None else number.get(plan.refilled, -1)]
                   for plan in thread.plans if plan.time in number]}

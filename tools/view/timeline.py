@@ -111,7 +111,10 @@ class Capacity:
 
 @dataclass(slots=True)
 class ThreadLine:
-    """One thread: its stretches in order, and what happened in it."""
+    """One thread: its stretches in order, what happened in it, and when it ended, if it did.
+
+    `over` says of a part of a run that the thread had ended before it begins.
+    """
 
     name: str
     spans: list[Span] = field(default_factory=list)
@@ -120,15 +123,12 @@ class ThreadLine:
     plans: list[Planned] = field(default_factory=list)
     capacity: list[Capacity] = field(default_factory=list)
     closing: Closing | None = None
+    ended: int | None = None
+    over: bool = False
 
     @property
     def is_sporadic(self) -> bool:
         return bool(self.capacity or self.plans)
-
-    @property
-    def ended(self) -> int | None:
-        """The instant at which the thread ended, if it did."""
-        return next((mark.time for mark in self.marks[-1:] if mark.kind is MarkKind.EXIT), None)
 
     @property
     def ticks(self) -> int:
@@ -185,8 +185,9 @@ class Timeline:
 
     @property
     def instants(self) -> list[int]:
-        """The instants at which something happens, rising, the beginning and the end among them."""
+        """The instants at which something happens, the releases and missed deadlines of jobs too, rising, with the beginning and the end."""
         times = {event[0] for event in self.trace.events if not isinstance(event, Closing)}
+        times |= {mark.time for thread in self.threads for mark in thread.marks if mark.sentence}
         return sorted({time for time in times if self.start <= time <= self.end} | {self.start, self.end})
 
     @property

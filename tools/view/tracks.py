@@ -130,7 +130,7 @@ class Builder:
         elif track.state is not None:
             track.close(event.time, track.state)
         track.hold(event.time)
-        track.state, track.capacity = None, None
+        track.state, track.capacity, track.line.ended = None, None, event.time
 
     def returns(self, event: Return) -> None:
         if (event.call, event.result) == ("clock_settime", "0"):

@@ -4,10 +4,13 @@ from __future__ import annotations
 from collections.abc import Iterator
 
 from .facts import Facts
+from .lines import Return
 from .steps import capacity_steps
 from .timeline import State, ThreadLine, Timeline
 
 Steps = list[tuple[int, int]]
+# The calls that change the value of a semaphore, and by how much.
+SEMAPHORE_CALLS = {"sem_post": 1, "sem_wait": -1, "sem_timedwait": -1, "sem_trywait": -1}
 
 
 def clipped(changes: Iterator[tuple[int, int]], start: int, end: int) -> Steps:
@@ -24,9 +27,19 @@ def clipped(changes: Iterator[tuple[int, int]], start: int, end: int) -> Steps:
 
 
 def semaphores(seen: Timeline) -> dict[str, Steps]:
-    """The values of the semaphores that change."""
-    return {name: clipped(((time, int(values[0])) for time, values in seen.facts.changes("sem", name)), seen.start, seen.end)
-            for name in seen.facts.subjects("sem")}
+    """The values of the semaphores that change, each from its declared value on."""
+    found = {name: [(time, int(values[0])) for time, values in seen.facts.changes("sem", name)] for name in seen.facts.subjects("sem")}
+    calls: dict[int, str] = {}
+    for event in seen.trace.events if found else ():
+        if isinstance(event, Return) and event.call in SEMAPHORE_CALLS:
+            calls.setdefault(event.time, event.call)
+    return {name: clipped(iter(declared(changes[0], calls) + changes), seen.start, seen.end) for name, changes in found.items()}
+
+
+def declared(first: tuple[int, int], calls: dict[int, str]) -> Steps:
+    """The value that a semaphore begins with. No fact tells it, but the call of its first change, which is by one, has a line."""
+    time, value = first
+    return [(0, value - SEMAPHORE_CALLS[calls[time]])] if time in calls else []
 
 
 def queues(seen: Timeline) -> dict[str, Steps]:

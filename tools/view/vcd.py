@@ -103,7 +103,7 @@ def state_word(span: Span) -> str:
 
 
 def _states(thread: ThreadLine, start: int) -> Iterator[tuple[int, str]]:
-    yield start, "ended" if thread.ended is not None and not thread.spans else "dormant"
+    yield start, "ended" if thread.over else "dormant"
     for span in thread.spans:
         yield span.start, state_word(span)
     if thread.ended is not None:

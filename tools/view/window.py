@@ -37,8 +37,10 @@ def _named(seen: Timeline, name: str) -> ThreadLine:
 
 
 def _thread(thread: ThreadLine, first: int, last: int) -> ThreadLine:
+    ended = thread.ended
     return replace(
-        thread, spans=[_clipped(span, first, last) for span in thread.spans if span.end > first and span.start < last],
+        thread, ended=ended if ended is not None and first <= ended <= last else None, over=ended is not None and ended < first,
+        spans=[_clipped(span, first, last) for span in thread.spans if span.end > first and span.start < last],
         runs=[(max(a, first), min(b, last)) for a, b in thread.runs if b > first and a < last],
         marks=[mark for mark in thread.marks if first <= mark.time <= last],
         plans=[plan for plan in thread.plans if plan.time <= last and (plan.refilled is None or plan.refilled >= first)],

@@ -8,6 +8,7 @@ import xml.etree.ElementTree as ElementTree
 
 from measure.measures import measure_of_words
 from view.axis import Axis
+from view.html import data_of
 from view.lines import read_trace
 from view.main import FORMATS, drawer
 from view.releases import mark_jobs
@@ -15,6 +16,7 @@ from view.seen import timeline_of
 from view.svg_spans import draw_spans
 from view.svg_writer import Writer
 from view.timeline import Span, State, ThreadLine, Timeline
+from view.values import semaphores
 from view.window import NoWindow, window
 
 from .details import detail_of, trace_of
@@ -253,6 +255,30 @@ class Pictures(unittest.TestCase):
         for name in FORMATS:
             self.assertTrue(drawer(name)(seen), name)
         self.assertIn("the deadline of job 0: job 0 is released at 0; done at 34, 34 ticks", drawer("svg")(seen))
+
+    def test_a_late_job_where_nothing_else_happens(self) -> None:
+        """low waits for hog up to 31, and its jobs of 0, 10 and 20 are late by then; it ends at 43, before the deadline of the last at 50."""
+        low = "set 0\nloop 3\nrun 1\nadd 10\nclock_nanosleep reg\nend\nrun 3\nend\n"
+        seen = seen_of(detail_of(f"thread hog fifo 9 at 0\nrun 30\nend\nthread low fifo 5 at 0\n{low}".encode(), 60))
+        plain = drawer("vcd")(seen)
+        mark_jobs(seen, [measure_of_words("thread=low period=10")])
+        told = data_of(seen)
+        marks = {(int(told["ticks"][point]), kind) for point, kind, _ in told["threads"][1]["marks"]}
+        self.assertLessEqual({(10, "release"), (20, "release"), (10, "late"), (20, "late"), (30, "late"), (50, "late")}, marks)
+        self.assertEqual(seen.threads[1].ended, 43)
+        self.assertEqual(drawer("vcd")(seen), plain)
+
+    def test_a_part_behind_the_end_of_a_thread(self) -> None:
+        part = window(seen_of(detail_of(b"thread a fifo 5 at 0\nrun 2\nend\nthread b fifo 4 at 20\nrun 2\nend\n", 30)), 10, 30, None)
+        dump = drawer("vcd")(part)
+        self.assertEqual(re.findall(r"^s(ended|dormant) ", dump.partition("#20")[0], re.MULTILINE), ["ended", "dormant"])
+        self.assertEqual([thread["ended"] for thread in data_of(part)["threads"]], [0, data_of(part)["ticks"].index("23")])
+
+    def test_semaphores_begin_with_the_values_that_are_declared(self) -> None:
+        """No fact tells the first values, 2 and 3; s is waited for at 5 and t is posted at 6."""
+        seen = seen_of(detail_of(b"sem s 2\nsem t 3\nthread a fifo 5 at 0\nrun 4\nsem_wait s\nsem_post t\nsem_wait s\nend\n", 20))
+        self.assertEqual(semaphores(seen), {"s": [(0, 2), (5, 1), (7, 0)], "t": [(0, 3), (6, 4)]})
+        self.assertEqual(semaphores(window(seen, 3, 6, None)), {"s": [(3, 2), (5, 1)], "t": [(3, 3), (6, 4)]})
 
     def test_lists(self) -> None:
         titles = [rect.find(f"{SVG}title").text for rect in self.svg("01_fifo", lists=True).iter(f"{SVG}rect") if rect.get("class") == "list"]
