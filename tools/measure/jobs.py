@@ -6,10 +6,13 @@ one ends the oldest that is open.
 """
 from __future__ import annotations
 
+from bisect import bisect_right
 from collections import deque
 from collections.abc import Iterable
 from dataclasses import dataclass
 from fractions import Fraction
+
+from view.lines import Deliver
 
 from .seen import Seen
 
@@ -107,6 +110,20 @@ def periodic(seen: Seen, thread: str, period: int, phase: int, to: str, count: i
     if len(done) > len(releases):
         raise NamesNothing(f"'{to}' comes {len(done)} times for {len(releases)} jobs: the period, the phase or the line is another")
     return Jobs([Job(release, done[k] if k < len(done) else None) for k, release in enumerate(releases)], seen.end)
+
+
+def behind_a_lost_signal(seen: Seen, thread: str, period: int, phase: int, to: str) -> int | None:
+    """When a periodic thread first takes a signal of a timer although a release behind that of its job has passed: that one sent none.
+
+    None where this never comes, or where the thread sleeps up to its releases, and does not wait for a timer.
+    """
+    if any(found.event.name == thread and found.event.call == "clock_nanosleep" for found in seen.returned):
+        return None
+    done = [time for _, time in ends(seen, thread, to) if time > phase]
+    for event in seen.of(thread, Deliver):
+        if event.code == "TIMER" and phase + (bisect_right(done, event.time) + 1) * period < event.time:
+            return event.time
+    return None
 
 
 def answered(seen: Seen, begin: str, to: str, thread: str | None) -> Jobs:

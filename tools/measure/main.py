@@ -10,7 +10,7 @@ from view.lines import NotATraceLine, read_trace
 from view.source import NoSource, detail_of
 
 from .jobs import NamesNothing, SLEEP
-from .measures import Measure, WrongMeasure, measure_of, measure_of_words
+from .measures import Measure, WrongMeasure, lost_signal, measure_of, measure_of_words, without_places
 from .rta import Analysis, remarks, rta_table
 from .seen import Seen
 from .tables import as_csv, as_text, jobs_table, share, tables_of
@@ -50,7 +50,7 @@ def measures_of(said: argparse.Namespace) -> list[Measure]:
             tables = tomllib.loads(said.measures.read_bytes().decode()).get("measure", [])
         except (tomllib.TOMLDecodeError, UnicodeDecodeError) as wrong:
             raise WrongMeasure(f"{said.measures}: {wrong}") from None
-        measures += [measure for measure in map(measure_of, tables) if measure.words["kind"] in ("periodic", "response")]
+        measures += [without_places(measure) for measure in map(measure_of, tables) if measure.words["kind"] in ("periodic", "response")]
     return measures
 
 
@@ -69,6 +69,10 @@ def check(seen: Seen, measures: list[Measure]) -> list[str]:
             raise NamesNothing(f"measure '{measure.name}': {_nothing(measure, row[1])}")
         if measure.warning:
             notes.append(measure.warning)
+        lost = lost_signal(seen, measure.words)
+        if lost is not None:
+            notes.append(f"measure '{measure.name}': at {lost} its thread takes a signal of a timer that lost one before, since the last was "
+                         "pending; no job ends for that release, and each job behind it counts as later than it is")
         if measure.needs_detail and not seen.is_detail and seen.stands_at_the_end(str(measure.words["thread"])):
             notes.append(f"measure '{measure.name}': a trace does not tell whether the last job is done, since a call that waits has no "
                          "line; with --script FILE, or of a detail, it is told")

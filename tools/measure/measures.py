@@ -12,7 +12,7 @@ from fractions import Fraction
 
 from view.lines import CALLS, SIGNALS
 
-from .jobs import SLEEP, Jobs, NamesNothing, answered, periodic, thread_of
+from .jobs import SLEEP, Jobs, NamesNothing, answered, behind_a_lost_signal, periodic, thread_of
 from .seen import EVENTS, Seen
 from .usage import (
     capacity_of, high_ticks, is_server, refill_waits, stops_of, ticks_of, waits_of)
@@ -95,6 +95,13 @@ def jobs_of(seen: Seen, words: Table) -> Jobs:
     if words["kind"] == "periodic":
         return periodic(seen, words["thread"], words["period"], words.get("phase", 0), words.get("to", SLEEP), words.get("jobs"))
     return answered(seen, words["from"], words["to"], words.get("thread"))
+
+
+def lost_signal(seen: Seen, words: Table) -> int | None:
+    """When the jobs of a measure begin to count as later than they are, since a timer lost a signal; None where they never do."""
+    if words["kind"] != "periodic":
+        return None
+    return behind_a_lost_signal(seen, words["thread"], words["period"], words.get("phase", 0), words.get("to", SLEEP))
 
 
 def read_jobs(seen: Seen, words: Table) -> list[Figure]:
@@ -226,7 +233,15 @@ def measure_of_words(said: str) -> Measure:
         table[key] = int(value) if value.isascii() and value.isdigit() else value
     table.setdefault("kind", "periodic" if "period" in table else "response")
     table.setdefault("name", table.get("thread", "jobs"))
-    return measure_of(table)
+    return without_places(measure_of(table))
+
+
+def without_places(measure: Measure) -> Measure:
+    """The measure, where no value of a sweep is to stand in it. Raises WrongMeasure."""
+    for key, value in measure.words.items():
+        if key in NUMBERS and isinstance(value, str):
+            raise WrongMeasure(f"measure '{measure.name}': '{key}' is {value}, and only a sweep has a value for that; name a number")
+    return measure
 
 
 def _check_value(name: str, key: str, value: object) -> None:

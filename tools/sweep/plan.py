@@ -11,7 +11,7 @@ from dataclasses import dataclass
 from pathlib import Path
 
 from measure.measures import PLACE as WHOLE_PLACE
-from measure.measures import Measure, WrongMeasure, measure_of
+from measure.measures import NUMBERS, Measure, WrongMeasure, measure_of
 
 MOST_RUNS = 1_000_000
 GREATEST_NUMBER = 10**18
@@ -213,3 +213,7 @@ def _places(sweep: Sweep) -> None:
     for name in sweep.names:
         if name not in places:
             raise WrongSweep(f"[values] has '{name}', and the script has no {{{name}}}")
+    for measure in sweep.measures:
+        for key in NUMBERS.keys() & {key for key, word in measure.words.items() if isinstance(word, str)}:
+            if min(sweep.values[measure.words[key][1:-1]]) < NUMBERS[key]:
+                raise WrongSweep(f"measure '{measure.name}': '{key}' is a number of at least {NUMBERS[key]}, and {measure.words[key]} may be less")

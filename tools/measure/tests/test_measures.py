@@ -5,10 +5,10 @@ import unittest
 from pathlib import Path
 
 from measure.jobs import NamesNothing
-from measure.measures import WrongMeasure, jobs_of, measure_of, never_done
+from measure.measures import WrongMeasure, jobs_of, lost_signal, measure_of, measure_of_words, never_done, without_places
 from measure.seen import Seen
 from view.lines import Trace, read_trace
-from view.tests.details import trace_of
+from view.tests.details import detail_of, trace_of
 from view.seen import timeline_of
 from view.timeline import State
 
@@ -221,6 +221,22 @@ class Measures(unittest.TestCase):
         self.assertEqual([time for _, time in controller.lines(["return", "srv"])], [33, 36, 40])
         self.assertEqual([time for _, time in controller.lines(["exhaust", "*"])], [40, 43])
         self.assertEqual(controller.lines(["return", "s"]), [])
+
+    def test_a_signal_of_a_timer_that_is_lost(self) -> None:
+        """The job of 40 ends at 69. The signal of 50 is pending then, that of 60 is lost, and of the next, of 70, the tool takes it for that of 60."""
+        job = "sigwaitinfo rt1\nrun 2\n"
+        script = ("timer beat rt1 0\nthread c fifo 8 at 0\nsigmask block rt1\ntimer_settime beat abs 10 10\n"
+                  f"loop 3\n{job}end\nsigwaitinfo rt1\nrun 28\nforever\n{job}end\nend\n").encode()
+        for horizon, phase, lost in ((120, 10, 69), (69, 10, 69), (68, 10, None), (40, 0, None)):
+            words = measure_of({"name": "m", "kind": "periodic", "thread": "c", "period": 10, "phase": phase, "to": "call sigwaitinfo"}).words
+            self.assertEqual(lost_signal(Seen(read_trace(detail_of(script, horizon).splitlines(keepends=True))), words), lost, horizon)
+
+    def test_a_value_that_only_a_sweep_has(self) -> None:
+        table = {"name": "a", "kind": "periodic", "thread": "t", "period": "{p}"}
+        self.assertEqual(measure_of(table).words["period"], "{p}")
+        for said in (lambda: without_places(measure_of(table)), lambda: measure_of_words("thread=t period={p}")):
+            with self.assertRaises(WrongMeasure):
+                said()
 
     def test_tables_that_say_no_measure(self) -> None:
         for table in ({}, {"name": "a b"}, {"name": "a"}, {"name": "a", "kind": "speed"}, {"name": "a", "kind": "ticks"},

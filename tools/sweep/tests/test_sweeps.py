@@ -305,7 +305,8 @@ class Sweeps(Folder):
         self.assertEqual(self.sweep("--plot", "speed").returncode, 2)
         self.assertEqual(self.sweep("--over", "a,b,c").returncode, 2)
         for wrong in (TOML.replace("20", '"x"', 1), TOML.replace("[2, 5, 0]", "[]"), TOML.replace("when =", "then ="),
-                      TOML + '[[measure]]\nname = "a"\nkind = "lock"\n', TOML.replace("step = 2", "step = 0"), "script ="):
+                      TOML + '[[measure]]\nname = "a"\nkind = "lock"\n', TOML.replace("step = 2", "step = 0"), "script =",
+                      TOML + '[[measure]]\nname = "j"\nkind = "periodic"\nthread = "a"\nperiod = "{when}"\n'):
             with self.assertRaises(WrongSweep, msg=wrong):
                 read_sweep(self.write(wrong))
         self.assertEqual(subprocess.run([sys.executable, str(SWEEP), str(self.folder / "none.toml")], capture_output=True,
