@@ -9,11 +9,12 @@ import signal
 import subprocess
 import sys
 import time
+from collections.abc import Iterator
 from enum import IntEnum
 from pathlib import Path
 
 from command import told
-from measure.measures import never_done
+from measure.measures import filled, never_done
 
 from .engine import NoEngine, Work, results
 from .groups import columns_of, grouped, lined_up
@@ -160,6 +161,20 @@ def complaints(sweep: Sweep, rows: list[dict[str, str]]) -> list[str]:
     return found
 
 
+def hidden(sweep: Sweep, rows: list[dict[str, str]]) -> Iterator[str]:
+    """Which measures have runs whose late jobs no response time shows, since they are not done at the end."""
+    for measure in sweep.measures:
+        late, greatest = f"{measure.name}_late", f"{measure.name}_greatest"
+        count = 0
+        for row in rows if late in measure.columns else ():
+            words = filled(measure.words, {name: int(row[name]) for name in sweep.names})
+            deadline = words.get("deadline", words.get("period"))
+            count += row[late] not in ("", "0") and int(row[greatest] or 0) <= deadline
+        if count:
+            yield (f"measure '{measure.name}': in {count} of {len(rows)} runs the late jobs are not done at the end: '{late}' counts them, "
+                   f"and '{greatest}' and the other response times do not")
+
+
 def refusals(rows: list[dict[str, str]]) -> str | None:
     """How many runs had no trace, and what the first one said."""
     faults = [row["fault"] for row in rows if row["status"] != "0"]
@@ -190,6 +205,8 @@ def carried_out(said: argparse.Namespace) -> None:
         print(lined_up(grouped(rows, by, sweep.measures, columns)), end="")
     if refused := refusals(rows):
         print(f"pse52-sweep: {refused}", file=sys.stderr)
+    for note in hidden(sweep, rows):
+        print(f"pse52-sweep: {note}", file=sys.stderr)
     if wrong := complaints(sweep, rows):
         raise NamedNothing("; ".join(wrong))
     if said.plot is not None:

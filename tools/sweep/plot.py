@@ -1,6 +1,7 @@
 """Draws one measure over one or two names as an SVG, by gnuplot."""
 from __future__ import annotations
 
+import math
 import shutil
 import subprocess
 from itertools import pairwise
@@ -47,6 +48,11 @@ def greatest_at(rows: list[dict[str, str]], measure: str, over: list[str]) -> Po
     return points
 
 
+def with_gaps(points: Points, rows: list[dict[str, str]], over: list[str]) -> Points:
+    """The points, and where no run has a figure none, so that the axis goes as far as the grid and no line goes over the gap."""
+    return {tuple(int(row[name]) for name in over): math.nan for row in rows} | points
+
+
 def script(points: Points, measure: str, over: list[str], out: Path, deadline: int | None = None) -> str:
     """The commands of gnuplot, data among them: a line, a line for each value of the second name, or a map where those are many."""
     if len(over) == 1:
@@ -58,12 +64,12 @@ def script(points: Points, measure: str, over: list[str], out: Path, deadline: i
 
 def _frame(points: Points, deadline: int | None) -> str:
     """The axes: along as far as there are points, up from 0 to above all of them and the deadline."""
-    places = [at[0] for at in points]
+    places, figures = [at[0] for at in points], [figure for figure in points.values() if not math.isnan(figure)]
     margin = max(1, max(places) - min(places)) * 0.03
     left = max(0.0, min(places) - margin)
-    top = max([1, deadline or 0, *points.values()]) * 1.08
-    counts = "".join(f"set {axis}tics 1\n" for axis, figures, far in (("x", places, max(places) - left), ("y", points.values(), top))
-                     if far < FEW and all(figure == int(figure) for figure in figures))
+    top = max([1, deadline or 0, *figures]) * 1.08
+    counts = "".join(f"set {axis}tics 1\n" for axis, along, far in (("x", places, max(places) - left), ("y", figures, top))
+                     if far < FEW and all(figure == int(figure) for figure in along))
     return LINES.format(left=left, right=max(places) + margin, top=top, counts=counts)
 
 
@@ -126,6 +132,6 @@ def draw(rows: list[dict[str, str]], measure: str, over: list[str], out: Path, d
     points = greatest_at(rows, measure, over)
     if not points:
         raise NoPlot(f"no run has a figure of '{measure}'")
-    ended = subprocess.run([gnuplot()], input=script(points, measure, over, out, deadline), text=True, capture_output=True, check=False)
+    ended = subprocess.run([gnuplot()], input=script(with_gaps(points, rows, over), measure, over, out, deadline), text=True, capture_output=True, check=False)
     if ended.returncode != 0:
         raise NoPlot(f"gnuplot: {ended.stderr.strip()}")

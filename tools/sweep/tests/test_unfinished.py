@@ -1,0 +1,65 @@
+"""Jobs that are never done have no response time: what a sweep says of them, and how its picture leaves them out."""
+from __future__ import annotations
+
+import math
+import unittest
+from pathlib import Path
+
+from sweep.plot import greatest_at, script, with_gaps
+
+from .test_sweeps import Folder
+
+# hog takes so much of each 20 ticks that low has no job, some jobs or all of its jobs done.
+STARVING = """\
+thread hog fifo 9 at 0
+    set 0
+    forever
+        run {work}
+        add 20
+        clock_nanosleep reg
+    end
+end
+thread low fifo 5 at 0
+    set 0
+    forever
+        run 3
+        add 40
+        clock_nanosleep reg
+    end
+end
+"""
+STARVING_TOML = """\
+script = "two.task.in"
+horizon = 200
+[values]
+work = [4, 17, 18]
+[[measure]]
+name = "low"
+kind = "periodic"
+thread = "low"
+period = 40
+"""
+
+
+class Unfinished(Folder):
+    def test_late_jobs_that_no_response_time_shows(self) -> None:
+        """With 17 low has a tick in 20 and its first job is done late; with 18 none of its five jobs is done. The last is not late yet."""
+        self.write(STARVING_TOML, STARVING)
+        ended = self.sweep("--by", "work", "--columns", "low_greatest,low_late")
+        self.assertEqual([line.split() for line in ended.stdout.splitlines()[2:]],
+                         [["4", "1", "0", "11", "0"], ["17", "1", "0", "120", "4"], ["18", "1", "0", "4"]])
+        self.assertIn("measure 'low': in 1 of 3 runs the late jobs are not done at the end: 'low_late' counts them", ended.stderr)
+        self.write(STARVING_TOML.replace("[4, 17, 18]", "[4, 17]"), STARVING)
+        self.assertNotIn("not done at the end", self.sweep().stderr)
+
+    def test_the_picture_has_a_gap(self) -> None:
+        rows = [{"x": str(x), "m": figure} for x, figure in ((0, ""), (1, "5"), (2, ""), (3, "7"), (9, ""))]
+        points = with_gaps(greatest_at(rows, "m", ["x"]), rows, ["x"])
+        self.assertEqual([at for at, figure in sorted(points.items()) if math.isnan(figure)], [(0,), (2,), (9,)])
+        drawn = script(points, "m", ["x"], Path("a.svg"))
+        self.assertIn("0 nan\n1 5.0\n2 nan\n3 7.0\n9 nan\n", drawn)
+        self.assertIn("set xrange [0.0:9.27]", drawn)
+
+
+if __name__ == "__main__":
+    unittest.main()
