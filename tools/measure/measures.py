@@ -226,7 +226,11 @@ def measure_of(table: Table) -> Measure:
 def measure_of_words(said: str) -> Measure:
     """The measure of jobs that words KEY=VALUE say. Its name is that of the thread where none is said, and its kind follows from its keys."""
     table: Table = {}
-    for word in shlex.split(said):
+    try:
+        split = shlex.split(said)
+    except ValueError:
+        raise WrongMeasure(f"--jobs has a quotation mark that is not closed: {said}") from None
+    for word in split:
         key, equals, value = word.partition("=")
         if not equals:
             raise WrongMeasure(f"--jobs has words KEY=VALUE, and '{word}' is none")

@@ -231,10 +231,11 @@ class Measures(unittest.TestCase):
             words = measure_of({"name": "m", "kind": "periodic", "thread": "c", "period": 10, "phase": phase, "to": "call sigwaitinfo"}).words
             self.assertEqual(lost_signal(Seen(read_trace(detail_of(script, horizon).splitlines(keepends=True))), words), lost, horizon)
 
-    def test_a_value_that_only_a_sweep_has(self) -> None:
+    def test_words_that_say_no_measure(self) -> None:
         table = {"name": "a", "kind": "periodic", "thread": "t", "period": "{p}"}
         self.assertEqual(measure_of(table).words["period"], "{p}")
-        for said in (lambda: without_places(measure_of(table)), lambda: measure_of_words("thread=t period={p}")):
+        for said in (lambda: without_places(measure_of(table)), lambda: measure_of_words("thread=t period={p}"),
+                     lambda: measure_of_words('thread=t period=5 to="return t')):
             with self.assertRaises(WrongMeasure):
                 said()
 
