@@ -64,13 +64,21 @@ def words_of(words: list[str]) -> argparse.Namespace:
                         help="what runs a script; without it PSE52 of the environment, or bin/pse52")
     parser.add_argument("--engine", choices=("parallel", "xargs"), help="without it GNU parallel where that is here")
     parser.add_argument("--anew", action="store_true", help="forget the rows that are done")
-    return parser.parse_args(words)
+    said = parser.parse_args(words)
+    if said.columns and not said.by:
+        parser.error("--columns are some of those that --by NAME puts together, and without it nothing is")
+    if said.over and not said.plot:
+        parser.error("--over is for a picture, and without --plot COLUMN none is drawn")
+    return said
 
 
 def program_of(said: str | None) -> list[str]:
     """The words of the program. That of this repository is started without its wrapper; where there is none, the wrapper says why."""
     if said:
-        words = shlex.split(said)
+        try:
+            words = shlex.split(said)
+        except ValueError as wrong:
+            raise NoProgram(f"--program {said}: {wrong}") from wrong
         if not words or shutil.which(words[0]) is None:
             raise NoProgram(f"'{said}' is no program that can be started")
         return [str(Path(word).resolve()) if os.sep in word and Path(word).exists() else word for word in words]

@@ -303,7 +303,11 @@ class Sweeps(Folder):
         self.write()
         self.assertEqual(self.sweep("--jobs", "0").returncode, 1)
         self.assertEqual(self.sweep("--plot", "speed").returncode, 2)
-        self.assertEqual(self.sweep("--over", "a,b,c").returncode, 2)
+        self.assertEqual(self.sweep("--plot", "a", "--over", "a,b,c").returncode, 2)
+        for words, named in (("--columns", "a_greatest"), "--by"), (("--over", "long"), "--plot"):
+            ended = self.sweep(*words)
+            self.assertEqual(ended.returncode, 1)
+            self.assertIn(named, ended.stderr)
         for wrong in (TOML.replace("20", '"x"', 1), TOML.replace("[2, 5, 0]", "[]"), TOML.replace("when =", "then ="),
                       TOML + '[[measure]]\nname = "a"\nkind = "lock"\n', TOML.replace("step = 2", "step = 0"), "script =",
                       TOML + '[[measure]]\nname = "j"\nkind = "periodic"\nthread = "a"\nperiod = "{when}"\n'):
@@ -316,6 +320,8 @@ class Sweeps(Folder):
         self.write()
         ended = self.sweep("--jobs", "1", program="/nowhere/pse52")
         self.assertEqual(ended.returncode, 3)
+        ended = self.sweep("--jobs", "1", program="pse52 'run")
+        self.assertEqual((ended.returncode, ended.stderr.splitlines()[-1]), (3, "pse52-sweep: --program pse52 'run: No closing quotation"))
         sweep = read_sweep(self.folder / "two.toml")
         with Streams() as streams:
             row = row_of(sweep, sweep.run(0), ["/nowhere/pse52"], streams)
