@@ -24,7 +24,10 @@ def bad_byte(number: int, line: bytes) -> Found:
     if number == 1 and line.startswith((b"\xef\xbb\xbf", b"\xff\xfe", b"\xfe\xff")):
         return Found(1, number, FaultKind.BadByte, word, "the text begins with a byte order mark", "save it as plain ASCII, without a mark")
     if byte >= 128:
-        letter = line[at:at + 4].decode("utf-8", "ignore")[:1] or line[at:at + 1].decode("latin-1")
+        letter = line[at:at + 4].decode("utf-8", "replace")[0].replace("\ufffd", chr(byte))
+        if not letter.isprintable():
+            return Found(1, number, FaultKind.BadByte, word, f"byte {at + 1} begins U+{ord(letter):04X}, which cannot be seen and is not ASCII",
+                         "remove it, or write a blank")
         return Found(1, number, FaultKind.BadByte, word, f"byte {at + 1} begins the letter '{letter}', which is not ASCII",
                      "write it in ASCII, also in a comment")
     return Found(1, number, FaultKind.BadByte, word, f"byte {at + 1} is {_BYTES.get(byte, f'a control byte, {byte}')}", "remove it")

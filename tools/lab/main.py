@@ -48,7 +48,7 @@ def fragment_of(said: str | None) -> str:
     if Path(said).stem in (example.name for example in gallery() if example.script.encode() == script):
         return f"#example={Path(said).stem}"
     horizon = horizon_of(script)
-    return f"#script={quote(script.decode('ascii', 'replace'), safe='')}" + (f"&horizon={horizon}" if horizon is not None else "")
+    return f"#script={quote(script.decode('utf-8', 'replace'), safe='')}" + (f"&horizon={horizon}" if horizon is not None else "")
 
 
 def served(words: list[str]) -> int:

@@ -27,7 +27,7 @@ def sentence(name: str, span: Span) -> str:
             low = "" if span.high is None else ", the server's high priority" if span.high else ", low: no capacity to use"
             return f"{name} runs at priority {span.priority} {ticks}{low}{frame}"
         case "waiting":
-            what = f" for the {span.kind} {span.what}" if span.what else ""
+            what = f" for the {'thread' if span.kind == 'join' else span.kind} {span.what}" if span.what else ""
             until = f", at most until {span.until}" if span.until is not None and span.kind != "sleep" else ""
             until = f", until {span.until}" if span.kind == "sleep" else until
             return f"{name} waits{f' in {span.call}' if span.call else ''}{what} {ticks}{until}{frame}"

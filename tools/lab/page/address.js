@@ -1,8 +1,10 @@
 // What the address says: an example or a script, the horizon, the cursor, and the script that is kept beside it.
-const LONGEST = 100_000;
+// What is longer than an address may be stays with the page in the browser's history, where a reload and the way back find it.
+const LONGEST = 100_000, LONG = "#long";
+export const isTooLong = (hash) => hash.length > LONGEST;
 
 export function fromAddress() {
-  const said = new URLSearchParams(location.hash.slice(1).replaceAll("+", "%2B"));
+  const said = new URLSearchParams((location.hash === LONG && history.state || location.hash).slice(1).replaceAll("+", "%2B"));
   const number = (name) => /^\d{1,19}$/.test(said.get(name) || "") ? said.get(name) : "";
   return { example: said.get("example") || "", script: said.get("script"), horizon: number("horizon"), cursor: number("cursor"), beside: said.get("beside") };
 }
@@ -17,19 +19,15 @@ export function addressOf({ example, script, horizon, cursor, beside }) {
   return "#" + parts.join("&");
 }
 
+function put(hash) { if (isTooLong(hash)) history.replaceState(hash, "", LONG); else if (hash !== location.hash) history.replaceState(null, "", hash); }
 let clock = 0;
 // What stands in the page now becomes the page before this one, to which the browser's way back leads. The new one has another
 // address at once, since a browser tells of the way only where the addresses differ.
 export function leaveInAddress(said) {
   clearTimeout(clock);
-  const hash = addressOf(said());
-  if (hash.length > LONGEST) return;
-  history.replaceState(null, "", hash); history.pushState(null, "", "#");
+  put(addressOf(said())); history.pushState(null, "", "#");
 }
 export function toAddress(said) {
   clearTimeout(clock);
-  clock = setTimeout(() => {
-    const hash = addressOf(said());
-    if (hash.length <= LONGEST && hash !== location.hash) history.replaceState(null, "", hash);
-  }, 250);
+  clock = setTimeout(() => put(addressOf(said())), 250);
 }

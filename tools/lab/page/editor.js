@@ -28,6 +28,11 @@ function codeEditor(CodeMirror, changed, leave) {
     write(text) { code.setValue(text); code.clearHistory(); },
     replace(line, from, to, text) { code.replaceRange(text, { line, ch: from }, { line, ch: to }, "+slide"); },
     cursor: () => ({ line: code.getCursor().line, column: code.getCursor().ch }),
+    // As if it were typed, so that it can be undone; the focus stays where it is.
+    put(from, to, text) {
+      const place = code.posFromIndex(from);
+      code.replaceRange(text, place, code.posFromIndex(to)); code.setCursor(place); code.scrollIntoView(null, 80);
+    },
     goTo(line, column) { code.focus(); code.setCursor({ line, ch: column }); code.scrollIntoView(null, 80); },
     focus: () => code.focus(),
     faults(found) {
@@ -76,6 +81,10 @@ function plainEditor(changed, leave) {
     replace(line, from, to, text) {
       const start = starts(line);
       area.setRangeText(text, start + from, start + to, "preserve"); number(); changed();
+    },
+    put(from, to, text) {
+      area.setRangeText(text, from, to, "start"); number(); changed();
+      area.scrollTop = Math.max(0, (area.value.slice(0, from).split("\n").length - 5) * 19.5);
     },
     cursor() {
       const before = area.value.slice(0, area.selectionStart).split("\n");

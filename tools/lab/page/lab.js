@@ -1,5 +1,5 @@
 // The page to work in: puts the editor, the runs, the pictures and what is around them together.
-import { addressOf, fromAddress, leaveInAddress, toAddress } from "./address.js";
+import { addressOf, fromAddress, isTooLong, leaveInAddress, toAddress } from "./address.js";
 import { runsDiffer, scriptsDiffer } from "./differences.js";
 import { editorOf } from "./editor.js";
 import { showFaults } from "./faults.js";
@@ -11,7 +11,7 @@ const element = (id) => document.getElementById(id);
 const HORIZON = /^\s*#\s*horizon (\d+)\b/;
 let about, editor, pictures, runs;
 const NONE = { threads: {}, instants: [] };
-let example = null, kept = null, keptRan = null, cursor = 0n, ran = null, difference = NONE, compared = false, quiet = false, showing = false, pressedAt = 0;
+let example = null, kept = null, keptRan = null, cursor = 0n, ran = null, difference = NONE, compared = false, quiet = false, showing = false, pressedAt = 0, notice = "";
 
 const script = () => editor.text();
 const horizon = () => element("horizon").value.trim();
@@ -22,6 +22,7 @@ const say = (text) => { element("state").textContent = text; };
 
 function changed() {
   if (quiet) return;
+  if (!element("slider").hidden && !sweep.follow(editor)) showSlider(false);
   runNow(); tellChanges(); remember();
 }
 function runNow() {
@@ -33,7 +34,8 @@ function runNow() {
 function shownA(told, wanted) {
   showFaults(editor, told.faults || []);
   document.body.classList.toggle("stale", !told.data);
-  say(told.faults ? told.faults.length + (told.faults.length === 1 ? " fault" : " faults") + "; the picture is that of the script before" : told.why || told.warning || "");
+  say(told.faults ? told.faults.length + (told.faults.length === 1 ? " fault" : " faults") + (ran ? "; the picture is that of the script before" : "") : told.why || told.warning || notice);
+  notice = "";
   if (!told.data) return;
   ran = told;
   put("a", told.data);
@@ -119,7 +121,7 @@ function start({ text, of = null, ticks = "", at = 0n, beside = null }) {
   example = of; cursor = at;
   element("horizon").value = ticks || (HORIZON.exec(text) || [])[1] || horizon();
   quiet = true; editor.write(text); quiet = false;
-  element("slider").hidden = true; element("sweep").setAttribute("aria-pressed", "false");
+  showSlider(false);
   runNow(); tellChanges(); keep(beside);
 }
 function tellChanges() {
@@ -141,15 +143,14 @@ function tellExample(of) {
   menu.options[0].text = other ? of.name.replaceAll("_", " ") + ", changed" : "your own script";
   menu.value = of && !other ? of.name : "";
 }
-// Makes a change, and keeps the run before it beside.
+// Makes a change, and keeps the run before it beside. The keys then belong to the picture.
 function make(change) {
   const text = script(), at = text.indexOf(change.find);
   if (at < 0) return;
   pressedAt = performance.now();
   if (kept === null) keep(text);
-  quiet = true; editor.write(text.slice(0, at) + change.put + text.slice(at + change.find.length)); quiet = false;
-  changed();
-  editor.goTo(text.slice(0, at).split("\n").length - 1, 0);
+  editor.put(at, at + change.find.length, change.put);
+  pictures.a.focus(true);
 }
 
 // ---- the address
@@ -161,6 +162,7 @@ function now() {
 function remember() { if (!quiet) toAddress(now); }
 function readAddress() {
   const said = fromAddress(), of = about.gallery.find((one) => one.name === said.example) || null;
+  if (!of && said.script === null && location.hash.length > 1) notice = "The link has no script, and names no example of the course" + (said.example ? ": " + said.example : "") + ".";
   if (of || said.script !== null) start({ text: said.script !== null ? said.script : of.script, of, ticks: said.horizon || (of ? String(of.horizon) : ""),
     at: said.cursor ? BigInt(said.cursor) : 0n, beside: said.beside });
   else if (about.gallery.length) begin(about.gallery[0].name);
@@ -176,9 +178,10 @@ function setDark(on) {
 const isDark = () => document.documentElement.classList.contains("dark");
 function save() { download(title() + ".task", script(), "text/plain"); }
 function toggleHelp() { element("keys").hidden = !element("keys").hidden; element("help").setAttribute("aria-expanded", String(!element("keys").hidden)); }
+function showSlider(on) { element("slider").hidden = !on; element("sweep").setAttribute("aria-pressed", String(on)); }
 function toggleSweep() {
   const on = element("slider").hidden && sweep.begin(editor);
-  element("slider").hidden = !on; element("sweep").setAttribute("aria-pressed", String(on));
+  showSlider(on);
   if (on) element("value").focus();
 }
 const KEYS = { e: () => editor.focus(), g: () => element("gallery").focus(), h: () => element("horizon").focus(), c: () => keep(kept === null ? script() : null), s: toggleSweep, x: nextDifference,
@@ -221,11 +224,12 @@ function wire() {
   element("file").onchange = async () => { const file = element("file").files[0]; if (file) { const text = await opened(file); leave(); start({ text }); } element("file").value = ""; };
   element("export").onchange = async () => { const form = element("export").value; element("export").value = ""; if (form) say(await exported(form, script(), horizon(), title())); };
   element("link").onclick = async () => {
-    const link = location.href.split("#")[0] + addressOf(now());
+    const said = addressOf(now()), link = location.href.split("#")[0] + said;
+    if (isTooLong(said)) { say("The script is too long for a link: save it, and hand on the file."); return; }
     try { await navigator.clipboard.writeText(link); say("The link is copied."); } catch { history.replaceState(null, "", link); say("The link is in the address."); }
   };
   element("look").onclick = KEYS.d; element("help").onclick = toggleHelp;
-  window.addEventListener("hashchange", readAddress);
+  window.addEventListener("popstate", readAddress);
   window.matchMedia("(prefers-color-scheme: dark)").addEventListener("change", (query) => setDark(query.matches));
 }
 

@@ -55,5 +55,5 @@ new ResizeObserver(() => { if (fits) showAll(); else resized(); }).observe(canva
 for (const done of ["wheel", "keydown", "click", "pointermove"]) window.addEventListener(done, () => setTimeout(() => { if (canvas.clientWidth) fits = isWhole(); }));
 take(EMPTY); measure(); setDark(false); showAll();
 // Not `picture`: that is the canvas, by its id.
-window.pane = { show, goTo, press, dark: setDark, tick: tickNow, focus: () => canvas.focus(), differ(threads) { differing = threads; drawSoon(); },
+window.pane = { show, goTo, press, dark: setDark, tick: tickNow, focus: (still = false) => canvas.focus({ preventScroll: still }), differ(threads) { differing = threads; drawSoon(); },
   data: () => data };

@@ -13,29 +13,42 @@ export function begin(editor) {
     if (!found.length) continue;
     let number = at === line ? found.findIndex((one) => one.index <= column && column <= one.index + one[0].length) : 0;
     if (number < 0) number = 0;
-    where = { line: at, number };
+    where = { line: at, number, lines };
     const value = Number(found[number][0]);
     if (!Number.isSafeInteger(value)) continue;
     Object.assign(element("value"), { min: 0, max: Math.max(10, 2 * value), step: 1 });
     element("least").value = "0"; element("most").value = String(Math.max(10, 2 * value));
-    tell(editor, value);
+    tell(value);
     return true;
   }
   return false;
 }
-function tell(editor, value) {
-  const line = editor.text().split("\n")[where.line] || "";
-  element("swept").textContent = "line " + (where.line + 1) + ": " + line.trim().slice(0, 28);
+function tell(value) {
+  element("swept").textContent = "line " + (where.line + 1) + ": " + where.lines[where.line].trim().slice(0, 28);
   element("value").value = value; element("number").textContent = value;
 }
 export function bounds() {
   const least = Number(element("least").value), most = Number(element("most").value);
   if (Number.isSafeInteger(least) && Number.isSafeInteger(most) && least < most) Object.assign(element("value"), { min: least, max: most });
 }
+// Where the line of the number stands behind a change of the script; -1 where it is there no more.
+function lineIn(lines) {
+  const { line, lines: before } = where, shift = lines.length - before.length;
+  const stays = (from, to, by) => before.slice(from, to).every((text, at) => text === lines[from + by + at]);
+  if (stays(0, line + 1, 0)) return line;
+  if (stays(line, before.length, shift)) return line + shift;
+  return shift === 0 && stays(0, line, 0) && stays(line + 1, before.length, 0) ? line : -1;
+}
+// Follows the number as the script is changed, and says whether it is still there.
+export function follow(editor) {
+  const lines = editor.text().split("\n"), line = lineIn(lines), found = numbersOf(lines[line] || "")[where.number];
+  if (!found || !Number.isSafeInteger(Number(found[0]))) return false;
+  where = { line, number: where.number, lines };
+  if (Number(found[0]) > Number(element("value").max)) element("value").max = element("most").value = found[0];
+  tell(Number(found[0]));
+  return true;
+}
 export function slide(editor) {
-  const line = editor.text().split("\n")[where.line] || "", found = numbersOf(line)[where.number];
-  if (!found) return;
-  const value = element("value").value;
+  const found = numbersOf(where.lines[where.line])[where.number], value = element("value").value;
   if (found[0] !== value) editor.replace(where.line, found.index, found.index + found[0].length, value);
-  tell(editor, value);
 }

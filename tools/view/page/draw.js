@@ -23,7 +23,8 @@ const LABELLED = new Set(["deliver", "error", "late", "clock"]);
 // How wide the names are, how high the rows and the marks on one another, and the greatest capacity of each server.
 function measure() {
   sizes = sizesOf(data.threads.length + data.mutexes.length / 2);
-  gutter = Math.min(180, 16 + Math.max(40, ...data.threads.map((thread) => thread.name.length * 8), ...data.mutexes.map((mutex) => mutex.name.length * 7)));
+  const wide = (name, font) => { pen.font = font + FONT; return Math.ceil(pen.measureText(name).width); };
+  gutter = Math.min(180, 16 + Math.max(40, ...data.threads.map((thread) => wide(thread.name, "bold 12px ")), ...data.mutexes.map((mutex) => wide(mutex.name, "10px "))));
   levels = data.threads.map(levelsOf);
   greatest = data.threads.map((thread) => thread.capacity.reduce((most, piece) => Math.max(most, Number(piece[2])), 1));
 }
@@ -268,19 +269,23 @@ function thinned(marks, from, past) {
   }
   return kept;
 }
+// A label stands behind its mark, or in front of it where another mark of its level comes too soon and there is room.
 function drawMarks(thread, bar) {
-  const r = radius(), labelFree = [];
-  for (const { x, kind, text, level } of marksInSight(thread)) {
+  const r = radius(), taken = [], seen = marksInSight(thread);
+  seen.forEach(({ x, kind, text, level }, number) => {
     const [colour, corners] = SHAPES[kind], y = bar - r - 2 - level * (2 * r + 2);
     pen.fillStyle = look[colour]; pen.beginPath();
     corners.forEach(([dx, dy], n) => pen[n ? "lineTo" : "moveTo"](x + dx * r, y + dy * r));
     pen.closePath(); pen.fill();
-    if (text && LABELLED.has(kind) && x + r > (labelFree[level] || -99) && sizes.marks >= 9) {
-      const side = (kind === "late" ? 1.6 : 1) * r + 2, wide = side + 1 + text.length * 6, inside = x + wide < width;
-      write(text, inside ? x + side : x - r - 2, y + 3, LEAST_TEXT, look[colour], inside ? "left" : "right");
-      labelFree[level] = x + wide;
-    }
-  }
+    const before = taken[level] ?? gutter;
+    taken[level] = Math.max(before, x + r);
+    if (!text || !LABELLED.has(kind) || x + r <= before || sizes.marks < 9) return;
+    const side = (kind === "late" ? 1.6 : 1) * r + 2, wide = side + 1 + text.length * 6, next = seen.find((mark, at) => at > number && mark.level === level);
+    const inside = x + wide < width, fits = x - wide > before, behind = inside && !(fits && next && next.x - r < x + wide);
+    if (!behind && !fits) return;
+    write(text, behind ? x + side : x - r - 2, y + 3, LEAST_TEXT, look[colour], behind ? "left" : "right");
+    if (behind) taken[level] = x + wide;
+  });
 }
 function drawServer(thread, top, high) {
   const base = top + high, unit = high / greatest[data.threads.indexOf(thread)];

@@ -67,7 +67,7 @@ function inWords(span) {
   let text = STATE_NAMES[state];
   if (state === RUNNING) text += " at priority " + priority + (high === 0 ? " (the server's low)" : "");
   else if (state === READY && data.detail) text += " at priority " + priority;
-  else if (state === WAITING && kind) text += (call ? " in " + call : "") + (what ? " for the " + kind + " " + what : "") + (until ? " until " + until : "");
+  else if (state === WAITING && kind) text += (call ? " in " + call : "") + (what ? " for the " + (kind === "join" ? "thread" : kind) + " " + what : "") + (until ? " until " + until : "");
   else if (call) text += " in " + call;
   return text + (frame ? ", in the " + (cleanup ? "cleanup" : "signal") + " handler " + frame : "");
 }
