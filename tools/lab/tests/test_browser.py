@@ -79,6 +79,24 @@ class Page(InBrowser):
         self.assertIn("18 dispatch low 2", self.in_frame("data.lines", "a"))
         self.shot("slider")
 
+    def test_the_slider_follows_its_number(self) -> None:
+        """A line above moves it, a number written by hand is its value, and without its line it ends."""
+        from selenium.webdriver.common.keys import Keys
+
+        self.open("#example=04_inversion")
+        line = self.script().splitlines().index("    run 9")
+        self.does("document.querySelector('.CodeMirror')?.CodeMirror.setCursor(arguments[0], 8); const area = document.querySelector('#plain textarea');"
+                  "if (area) { const at = area.value.indexOf('run 9') + 4; area.setSelectionRange(at, at); }", line)
+        self.does("document.getElementById('sweep').click()")
+        self.write_at_once("# a line above\n" + self.script())
+        self.assertEqual(self.text("#swept"), f"line {line + 2}: run 9")
+        self.press(Keys.ARROW_RIGHT)
+        self.assertEqual([text for text in self.script().splitlines()[line:line + 2]], ["thread medium fifo 5 at 5", "    run 10"])
+        self.write_at_once(self.script().replace("    run 10\n", "    run 40\n"))
+        self.assertEqual(self.does("return ['value', 'most'].map((name) => document.getElementById(name).value)"), ["40", "40"])
+        self.write_at_once(self.script().replace("    run 40\n", ""))
+        self.assertTrue(self.does("return document.getElementById('slider').hidden"))
+
     def test_keys_in_the_fields(self) -> None:
         """Escape leads from each field to the picture, and the keys of the page go on where the slider has the focus."""
         from selenium.webdriver.common.keys import Keys

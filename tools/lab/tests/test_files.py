@@ -24,6 +24,21 @@ class Files(InBrowser):
             time.sleep(0.05)
         raise AssertionError(f"{name} was not saved: {list(self.folder.iterdir())}")
 
+    def test_a_script_too_long_for_an_address(self) -> None:
+        """It is there again behind a reload and by the way back, and no link is made of it."""
+        self.open("#example=05_inherit")
+        long = "".join(f"thread t{number} fifo 5 at {number}\n" + "    run 1\n" * 100 + "end\n" for number in range(60))
+        self.write_at_once(long)
+        self.until("return location.hash", "#long")
+        self.does("document.getElementById('link').click()")
+        self.until("return document.getElementById('state').textContent", "The script is too long for a link: save it, and hand on the file.")
+        self.driver.refresh()
+        self.until("return window.lab && lab.drawn", long)
+        self.driver.find_element("id", "file").send_keys(str(TOP / "examples" / "03_round_robin.task"))
+        self.until("return lab.drawn.includes('quantum 4')")
+        self.driver.back()
+        self.until("return lab.drawn", long)
+
     def test_save_export_and_open(self) -> None:
         self.open("#example=05_inherit")
         self.does("document.getElementById('save').click()")

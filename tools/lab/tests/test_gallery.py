@@ -1,7 +1,9 @@
 """The course: each example is in it, in order, with two or three changes that do what they say."""
 from __future__ import annotations
 
+import tempfile
 import unittest
+from pathlib import Path
 
 from explain.text import faults_of
 from lab.gallery import EXAMPLES, FIRST, gallery
@@ -19,6 +21,12 @@ class Gallery(unittest.TestCase):
     def test_one_of_the_course_is_linked_by_its_name(self) -> None:
         self.assertEqual(fragment_of(str(EXAMPLES / "04_inversion.task")), "#example=04_inversion")
         self.assertTrue(fragment_of(str(EXAMPLES / "real" / "acceptor_not_run.task")).startswith("#script="))
+
+    def test_a_script_with_other_letters_keeps_them(self) -> None:
+        with tempfile.TemporaryDirectory() as folder:
+            script = Path(folder, "own.task")
+            script.write_text("# für\nthread a fifo 5 at 0\nend\n", encoding="utf-8")
+            self.assertTrue(fragment_of(str(script)).startswith("#script=%23%20f%C3%BCr%0A"))
 
     def test_each_has_two_or_three_changes(self) -> None:
         for example in gallery():

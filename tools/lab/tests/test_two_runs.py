@@ -24,6 +24,23 @@ class TwoRuns(InBrowser):
         self.does("document.getElementById('beside').click()")
         self.assertEqual(self.does("return document.getElementById('figure_b').hidden"), True)
 
+    def test_the_keys_after_a_change(self) -> None:
+        """They belong to the picture, and not to the script; and the change can be undone like what is typed."""
+        from selenium.webdriver.common.action_chains import ActionChains
+        from selenium.webdriver.common.keys import Keys
+
+        self.open("#example=04_inversion")
+        before = self.script()
+        next(button for button in self.driver.find_elements("css selector", "#changes button") if button.text == "make it inherit").click()
+        self.until("return document.getElementById('differs').textContent", "The runs differ at 8 instants, first at 6.")
+        self.press("x")
+        self.assertEqual(self.in_frame("pane.tick().toString()", "a"), "6")
+        self.assertEqual(self.script(), before.replace("mutex data none", "mutex data inherit"))
+        if not self.is_plain:
+            self.press("e")
+            ActionChains(self.driver).key_down(Keys.CONTROL).send_keys("z").key_up(Keys.CONTROL).perform()
+            self.assertEqual(self.script(), before)
+
     def test_a_line_more_and_a_word_changed(self) -> None:
         """The line that is new is told as such, and of the changed one the word alone is marked."""
         self.open("#example=25_budget_in_a_window")
@@ -44,6 +61,12 @@ class TwoRuns(InBrowser):
         self.does("document.getElementById('a').contentWindow.pane.goTo(50n)")
         self.assertEqual([self.in_frame("pane.tick().toString()", frame) for frame in "ab"], ["50", "32"])
         self.until("return location.hash.includes('cursor=50')")
+
+    def test_a_link_to_no_example(self) -> None:
+        self.open("#example=nosuch&cursor=6")
+        self.until("return document.getElementById('state').textContent", "The link has no script, and names no example of the course: nosuch.")
+        self.open()
+        self.assertEqual(self.text("#state"), "")
 
     def test_a_link_opened_again(self) -> None:
         self.open("#example=04_inversion&horizon=30")

@@ -122,6 +122,24 @@ class Page(unittest.TestCase):
         self.assertEqual(self.does('fitted("short", 12, "bold")'), "short")
         self.assertTrue(self.does("document.querySelector('aside').scrollWidth <= document.querySelector('aside').clientWidth"))
 
+    def test_a_short_name_stands_whole(self) -> None:
+        self.open(drawer("html")(timeline_of(read_trace(detail_of(b"thread medium fifo 5 at 0\nrun 3\nend\n", 9).splitlines(keepends=True)))))
+        self.assertEqual(self.does('fitted("medium", 12, "bold")'), "medium")
+
+    def test_a_label_keeps_clear_of_the_next_mark(self) -> None:
+        """The exit stands a tick behind the error, so that the label of the error stands in front of it."""
+        script = "sem go 0\nthread a fifo 5 at 0\nrun 6\nsem_trywait go\nend\n"
+        self.open(drawer("html")(timeline_of(read_trace(detail_of(script.encode(), 60).splitlines(keepends=True)))))
+        sides = self.does("""(() => { const said = [], plain = write; write = (...words) => { said.push(words); plain(...words); };
+            draw(); write = plain; return said.filter(([text]) => text === "EAGAIN").map((words) => words[5]); })()""")
+        self.assertEqual(sides, ["right"])
+
+    def test_who_is_joined(self) -> None:
+        script = "thread a fifo 5 at 0\njoin b\nend\nthread b fifo 4 at 0\nrun 3\nend\n"
+        self.open(drawer("html")(timeline_of(read_trace(detail_of(script.encode(), 9).splitlines(keepends=True)))))
+        self.does("over(2)")
+        self.assertEqual(self.does('lines("#states")')[0], "a waits in join for the thread b")
+
     def test_holding_and_the_second_cursor(self) -> None:
         self.open(drawer("html")(timeline(CONTROLLER)))
         self.assertEqual(self.does("click(24)")[:2], "24")
