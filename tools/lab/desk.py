@@ -94,7 +94,7 @@ class Desk:
         """The answer, as JSON. Raises Stopped."""
         with self._guard:
             if pane in self._busy:
-                self._busy[pane].stop("a newer run of the page took its place")
+                self._busy[pane].stop("a newer run took its place, as of another tab; change something here to run this one again")
         with self._turn[pane]:
             worker = self._ready.pop(pane, None) or Worker()
             with self._guard:

@@ -19,7 +19,7 @@ export async function editorOf(about, changed, leave) {
 function codeEditor(CodeMirror, changed, leave) {
   defineMode(CodeMirror);
   // Tab goes on to the next part of the page, as everywhere else.
-  const code = CodeMirror(place, { mode: "pse52", lineNumbers: true, indentUnit: 4, viewportMargin: 20, screenReaderLabel: "script",
+  const code = CodeMirror(place, { mode: "pse52", lineNumbers: true, lineWrapping: true, indentUnit: 4, viewportMargin: 20, screenReaderLabel: "script",
     extraKeys: { Tab: false, "Shift-Tab": false, Esc: leave } });
   let marks = [], notes = [], lines = [], words = [];
   code.on("change", changed);

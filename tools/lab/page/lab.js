@@ -11,7 +11,7 @@ const element = (id) => document.getElementById(id);
 const HORIZON = /^\s*#\s*horizon (\d+)\b/;
 let about, editor, pictures, runs;
 const NONE = { threads: {}, instants: [] };
-let example = null, kept = null, keptRan = null, cursor = 0n, ran = null, difference = NONE, compared = false, quiet = false, showing = false, pressedAt = 0, notice = "";
+let example = null, kept = null, keptRan = null, cursor = 0n, ran = null, ranScript = null, difference = NONE, compared = false, quiet = false, showing = false, pressedAt = 0, notice = "";
 
 const script = () => editor.text();
 const horizon = () => element("horizon").value.trim();
@@ -37,7 +37,7 @@ function shownA(told, wanted) {
   say(told.faults ? told.faults.length + (told.faults.length === 1 ? " fault" : " faults") + (ran ? "; the picture is that of the script before" : "") : told.why || told.warning || notice);
   notice = "";
   if (!told.data) return;
-  ran = told;
+  ran = told; ranScript = wanted.script;
   put("a", told.data);
   element("sources").textContent = "Trace: " + told.trace + ". Facts: " + told.facts + (told.facts === "the reference" ? ", of which nothing is proved." : ".");
   compare();
@@ -57,10 +57,12 @@ function put(pane, data) {
 // ---- two runs
 
 function shownB(told) {
-  if (!told.data) { say(told.why || "the kept script is refused"); return; }
+  if (!told.data) { element("differs").textContent = told.why || "The kept script is refused."; element("next").disabled = true; return; }
   keptRan = told;
   put("b", told.data); compare();
 }
+// What is kept is what the picture shows: where the script of now is refused, the one before.
+const shownScript = () => document.body.classList.contains("stale") && ran ? ranScript : script();
 function keep(text) {
   kept = text; keptRan = null;
   const two = kept !== null;
@@ -148,7 +150,7 @@ function make(change) {
   const text = script(), at = text.indexOf(change.find);
   if (at < 0) return;
   pressedAt = performance.now();
-  if (kept === null) keep(text);
+  if (kept === null) keep(shownScript());
   editor.put(at, at + change.find.length, change.put);
   pictures.a.focus(true);
 }
@@ -184,7 +186,7 @@ function toggleSweep() {
   showSlider(on);
   if (on) element("value").focus();
 }
-const KEYS = { e: () => editor.focus(), g: () => element("gallery").focus(), h: () => element("horizon").focus(), c: () => keep(kept === null ? script() : null), s: toggleSweep, x: nextDifference,
+const KEYS = { e: () => editor.focus(), g: () => element("gallery").focus(), h: () => element("horizon").focus(), c: () => keep(kept === null ? shownScript() : null), s: toggleSweep, x: nextDifference,
   d: () => setDark(!isDark()), "?": toggleHelp };
 const WITH_CONTROL = { s: save, o: () => element("file").click() };
 function pressed(key, control) {

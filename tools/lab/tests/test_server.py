@@ -100,7 +100,7 @@ class Server(unittest.TestCase):
         time.sleep(0.7)
         self.assertIn("text", json.loads(self.lab.run(SCRIPT, form="trace")[1]))
         older.join()
-        self.assertEqual(json.loads(answers[0]), {"why": "a newer run of the page took its place"})
+        self.assertEqual(json.loads(answers[0]), {"why": "a newer run took its place, as of another tab; change something here to run this one again"})
 
     def test_what_is_refused(self) -> None:
         _, text, _ = self.lab.run(b"thread a fifo 5 at 0\n    rum 3\nend\n")

@@ -41,6 +41,21 @@ class TwoRuns(InBrowser):
             ActionChains(self.driver).key_down(Keys.CONTROL).send_keys("z").key_up(Keys.CONTROL).perform()
             self.assertEqual(self.script(), before)
 
+    def test_the_run_that_is_kept_is_the_one_that_is_seen(self) -> None:
+        """Where the script is refused, that is the run before; where a link's is, the page says so."""
+        from selenium.webdriver.common.keys import Keys
+
+        self.open("#example=04_inversion")
+        before = self.script()
+        self.write_at_once(before.replace("    run 9\n", "    rum 9\n"))
+        self.until("return document.querySelectorAll('#faults li').length", 1)
+        self.press(Keys.ESCAPE, "c")
+        self.write_at_once(before.replace("    run 9\n", "    run 8\n"))
+        self.until("return document.getElementById('differs').textContent.startsWith('The runs differ')")
+        self.assertIn("6 dispatch medium 5", self.in_frame("data.lines", "b"))
+        self.open("#example=04_inversion&beside=rum")
+        self.until("return document.getElementById('differs').textContent", "The kept script is refused.")
+
     def test_a_line_more_and_a_word_changed(self) -> None:
         """The line that is new is told as such, and of the changed one the word alone is marked."""
         self.open("#example=25_budget_in_a_window")
