@@ -11,7 +11,8 @@ export function showFaults(editor, found) {
       item.append(Object.assign(document.createElement("span"), { className: "mend", textContent: "→ " + text }));
     item.tabIndex = 0;
     item.onclick = () => editor.goTo(fault.line - 1, Math.max(0, fault.column - 1));
-    item.onkeydown = (key) => { if (key.key === "Enter") item.onclick(); };
+    // The key is done with then: the script, which has the focus, would take it for a new line.
+    item.onkeydown = (key) => { if (key.key === "Enter") { key.preventDefault(); item.onclick(); } };
     return item;
   }));
 }

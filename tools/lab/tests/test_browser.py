@@ -59,6 +59,11 @@ class Page(InBrowser):
         self.assertTrue(self.does("return document.body.classList.contains('stale')"))
         self.shot("refused" + "".join(self.words))
         self.does("document.querySelector('#faults li').click()")
+        # Enter goes there too, and writes nothing.
+        self.does("document.querySelector('#faults li').focus()")
+        self.press("\ue007")
+        self.assertTrue(self.does("return document.getElementById('editor').contains(document.activeElement)"))
+        self.assertEqual(self.script(), lines)
         self.write_at_once(INHERIT)
         self.until("return document.querySelectorAll('#faults li').length", 0)
         self.assertFalse(self.does("return document.body.classList.contains('stale')"))
