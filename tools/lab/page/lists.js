@@ -1,6 +1,16 @@
 // What stands at the cursor: the ready lists by priority, who waits for whom, owners, budgets, and the rest of the facts.
 const REST = FACTS.filter(([word]) => !["mutex", "waiters", "pending"].includes(word));
 
+// Facts that are rows of numbers, in words.
+const groups = (words, size) => Array.from({ length: words.length / size }, (_, number) => words.slice(number * size, (number + 1) * size));
+const IN_WORDS = {
+  messages: (words) => groups(words, 2).map(([priority, value]) => value + " of priority " + priority).join(", "),
+  timer: ([due, interval]) => "due at " + due + (interval === "0" ? "" : ", then each " + interval),
+  notify: ([signal, value]) => signal + " with the value " + value,
+  signal: (words) => groups(words, 3).map(([code, value, target]) => code + " with the value " + value + (target === "*" ? " for the process" : " for " + target)).join(", "),
+};
+const inWordsOf = (word, said) => said && word in IN_WORDS ? IN_WORDS[word](said.split(" ")) : said;
+
 function section(title, rows) {
   if (!rows.length) return [];
   const head = Object.assign(document.createElement("h2"), { textContent: title }), table = document.createElement("table");
@@ -53,7 +63,7 @@ function budgetRows(at) {
 }
 function restRows(point) {
   const queues = factsOf("waiters").filter(([name]) => !data.facts["mutex " + name]).map(([name, changes]) => ["waiting for " + name, factAt(changes, point)]);
-  return [...queues, ...REST.flatMap(([word, name]) => factsOf(word).map(([subject, changes]) => [name + " " + subject, factAt(changes, point)]))].filter(([, said]) => said);
+  return [...queues, ...REST.flatMap(([word, name]) => factsOf(word).map(([subject, changes]) => [name + " " + subject, inWordsOf(word, factAt(changes, point))]))].filter(([, said]) => said);
 }
 function showLists(at) {
   const over = at.point >= last;

@@ -1,6 +1,8 @@
 """The page in a real browser: typing, the picture, the lists, refusals, the slider, a phone."""
 from __future__ import annotations
 
+from urllib.parse import quote
+
 from .in_browser import INHERIT, InBrowser
 
 
@@ -42,6 +44,14 @@ class Page(InBrowser):
         self.open("#example=14_two_budgets&cursor=17")
         self.assertEqual(self.in_frame("pane.tick().toString()", "a"), "17")
         self.assertEqual(self.table("Budgets"), ["server | capacity 0, comes back: 3 at 22"])
+
+    def test_rows_of_numbers_are_told_in_words(self) -> None:
+        self.open("#cursor=9&script=" + quote("queue q 2 8\ntimer t rt1 3\nthread a fifo 5 at 0\nsigmask block rt1\ntimer_settime t rel 20 6\nmq_notify q rt2 4\n"
+                                              "mq_send q 8 1 11\nmq_send q 8 5 12\ntkill a rt1\nsigqueue rt1 9\nrun 9\nend\naction rt2 ignore\n"))
+        self.assertEqual(self.table("Semaphores"), ["queue q | 12 of priority 5, 11 of priority 1", "timer t | due at 22, then each 6",
+                                                    "pending rt1 | USER with the value 0 for a, QUEUE with the value 9 for the process", "mask of a | rt1"])
+        self.does("document.getElementById('a').contentWindow.pane.goTo(3n)")
+        self.assertEqual(self.table("Semaphores")[0], "to be notified of q | rt2 with the value 4")
 
     def test_a_refusal_at_its_line_and_word(self) -> None:
         self.open("#example=05_inherit")
