@@ -11,11 +11,11 @@ const element = (id) => document.getElementById(id);
 const HORIZON = /^\s*#\s*horizon (\d+)\b/;
 let about, editor, pictures, runs;
 const NONE = { threads: {}, instants: [] };
-let example = null, kept = null, keptRan = null, cursor = 0n, ran = null, ranScript = null, difference = NONE, compared = false, quiet = false, showing = false, pressedAt = 0, notice = "";
+let example = null, named = "", kept = null, keptRan = null, cursor = 0n, ran = null, ranScript = null, difference = NONE, compared = false, quiet = false, showing = false, pressedAt = 0, notice = "";
 
 const script = () => editor.text();
 const horizon = () => element("horizon").value.trim();
-const title = () => lesson() ? example.name : "script";
+const title = () => lesson() ? example.name : named || "script";
 const say = (text) => { element("state").textContent = text; };
 
 // ---- runs
@@ -119,8 +119,8 @@ function begin(name) {
   const found = about.gallery.find((one) => one.name === name);
   if (found) start({ text: found.script, of: found, ticks: String(found.horizon) });
 }
-function start({ text, of = null, ticks = "", at = 0n, beside = null }) {
-  example = of; cursor = at;
+function start({ text, of = null, name = "", ticks = "", at = 0n, beside = null }) {
+  example = of; named = name; cursor = at;
   element("horizon").value = ticks || (HORIZON.exec(text) || [])[1] || horizon();
   quiet = true; editor.write(text); quiet = false;
   showSlider(false);
@@ -216,14 +216,14 @@ window.addEventListener("keydown", (key) => {
 }, true);
 
 function wire() {
-  element("gallery").onchange = () => { if (element("gallery").value) { leave(); begin(element("gallery").value); } else start({ text: script() }); };
+  element("gallery").onchange = () => { if (element("gallery").value) { leave(); begin(element("gallery").value); } else start({ text: script(), name: named }); };
   element("horizon").oninput = () => { runNow(); tellExample(lesson()); if (kept !== null) runs.b.run(kept, horizon(), title(), 0); remember(); };
   element("beside").onclick = KEYS.c; element("sweep").onclick = toggleSweep; element("next").onclick = nextDifference;
   element("back").onclick = () => { const text = kept; leave(); keep(null); editor.write(text); };
   element("least").oninput = element("most").oninput = sweep.bounds;
   element("value").oninput = () => { pressedAt = performance.now(); sweep.slide(editor); };
   element("open").onclick = WITH_CONTROL.o; element("save").onclick = save;
-  element("file").onchange = async () => { const file = element("file").files[0]; if (file) { const text = await opened(file); leave(); start({ text }); } element("file").value = ""; };
+  element("file").onchange = async () => { const file = element("file").files[0]; if (file) { const text = await opened(file); leave(); start({ text, name: file.name.replace(/\.\w+$/, "") }); } element("file").value = ""; };
   element("export").onchange = async () => { const form = element("export").value; element("export").value = ""; if (form) say(await exported(form, script(), horizon(), title())); };
   element("link").onclick = async () => {
     const said = addressOf(now()), link = location.href.split("#")[0] + said;

@@ -53,3 +53,5 @@ class Files(InBrowser):
         self.driver.find_element("id", "file").send_keys(str(TOP / "examples" / "03_round_robin.task"))
         self.until("return lab.drawn.includes('quantum 4')")
         self.assertEqual(self.does("return document.getElementById('horizon').value"), "28")
+        self.does("document.getElementById('save').click()")
+        self.assertIn("quantum 4", self.had("03_round_robin.task"))
