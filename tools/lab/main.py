@@ -2,6 +2,7 @@
 from __future__ import annotations
 
 import argparse
+import errno
 import re
 import secrets
 import signal
@@ -19,6 +20,7 @@ from .parts import parts
 from .server import GREATEST_SCRIPT, Lab
 
 TOOL = "pse52-lab"
+ENDING = (signal.SIGINT, signal.SIGTERM)
 LINK = re.compile(r"(?:https?://[^#]*)?#(.*)")
 
 
@@ -44,11 +46,21 @@ def fragment_of(said: str | None) -> str:
     link = LINK.fullmatch(said)
     if link is not None:
         return "#" + link[1]
-    script = Path(said).read_bytes()[:GREATEST_SCRIPT]
+    with open(said, "rb") as file:
+        script = file.read(GREATEST_SCRIPT + 1)
+    if len(script) > GREATEST_SCRIPT:
+        raise OSError(errno.EFBIG, f"a script has at most {GREATEST_SCRIPT} bytes", said)
     if Path(said).stem in (example.name for example in gallery() if example.script.encode() == script):
         return f"#example={Path(said).stem}"
     horizon = horizon_of(script)
     return f"#script={quote(script.decode('utf-8', 'replace'), safe='')}" + (f"&horizon={horizon}" if horizon is not None else "")
+
+
+def end(*_: object) -> None:
+    """Ends the server. A second signal, as of a Ctrl-C that is pressed twice, does not come between."""
+    for asked in ENDING:
+        signal.signal(asked, signal.SIG_IGN)
+    raise KeyboardInterrupt
 
 
 def served(words: list[str]) -> int:
@@ -62,8 +74,8 @@ def served(words: list[str]) -> int:
         raise NoPort(f"the port {said.port} cannot be had: {getattr(error, 'strerror', None) or error}") from None
     for pane in ("a", "b"):
         threading.Thread(target=desk.prepare, args=[pane], daemon=True).start()
-    for asked in (signal.SIGINT, signal.SIGTERM):  # SIGINT too: a shell without a terminal has it ignored in the background
-        signal.signal(asked, signal.default_int_handler)
+    for asked in ENDING:  # SIGINT too: a shell without a terminal has it ignored in the background
+        signal.signal(asked, end)
     print(lab.address + fragment, flush=True)
     if said.open:
         webbrowser.open(lab.address + fragment)

@@ -7,6 +7,7 @@ import os
 import signal
 import subprocess
 import sys
+import time
 from pathlib import Path
 from urllib.parse import urlsplit
 
@@ -30,6 +31,13 @@ class Served:
             self._process.send_signal(signal.SIGINT)
         self._process.stdout.close()
         return self._process.wait(20)
+
+    def end_by_many(self) -> int:
+        """Ends it by signal upon signal."""
+        while self._process.poll() is None:
+            self._process.send_signal(signal.SIGINT)
+            time.sleep(0.001)
+        return self.end()
 
     @property
     def children(self) -> list[int]:

@@ -28,6 +28,15 @@ class Gallery(unittest.TestCase):
             script.write_text("# für\nthread a fifo 5 at 0\nend\n", encoding="utf-8")
             self.assertTrue(fragment_of(str(script)).startswith("#script=%23%20f%C3%BCr%0A"))
 
+    def test_a_script_that_is_too_long_is_not_cut(self) -> None:
+        with tempfile.TemporaryDirectory() as folder:
+            script = Path(folder, "long.task")
+            script.write_bytes(b"#\n" * 524_288)
+            self.assertTrue(fragment_of(str(script)).startswith("#script="))
+            script.write_bytes(b"#\n" * 524_288 + b"#")
+            with self.assertRaisesRegex(OSError, "at most 1048576 bytes"):
+                fragment_of(str(script))
+
     def test_each_has_two_or_three_changes(self) -> None:
         for example in gallery():
             with self.subTest(example.name):

@@ -117,6 +117,15 @@ class Server(unittest.TestCase):
         self.assertEqual(lab.end(), 0)
         self.assertEqual([worker for worker in workers if alive(worker)], [])
 
+    def test_a_second_signal_does_not_disturb_the_end(self) -> None:
+        """As of a Ctrl-C that is pressed twice."""
+        lab = Served()
+        self.addCleanup(lab.end)
+        lab.run(SCRIPT)
+        workers = lab.children
+        self.assertEqual(lab.end_by_many(), 0)
+        self.assertEqual([worker for worker in workers if alive(worker)], [])
+
 
 class Program(unittest.TestCase):
     def test_the_trace_in_a_detail(self) -> None:
