@@ -3,6 +3,7 @@ from __future__ import annotations
 
 from forms import SERVER_WORDS, USES, ObjectKind
 from reader import GREATEST_LIMIT, Entry, Fault, FaultKind
+from words import is_signal
 
 from .found import Aside, Found, Word
 from .lines import declared_word, number_fault, used_words
@@ -64,6 +65,8 @@ def _unknown(entry: Entry, entries: list[Entry], guessed: list[Entry], words: li
             kind = USES[place]
             near = nearest(word.text, [name for name, other in known.items() if other.form.declares is kind])
             declare = f"declare it outside of bodies: `{DECLARATIONS[kind].format(word.text)}`"
+            if kind is ObjectKind.COND and is_signal(word.text):
+                declare = f"a signal is sent by `kill {word.text}` or `tkill T {word.text}`, and `signal` wakes who waits for a condition"
             return Found(2, entry.line, FaultKind.UnknownName, word, f"no line declares `{word.text}`, {KINDS[kind]}",
                          f"did you mean `{near}`? Else {declare}" if near else declare)
     return None

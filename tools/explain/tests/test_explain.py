@@ -42,6 +42,7 @@ CASES = [
     (BODY.format("run reg"), 2, 5, "BadNumber", "only where a pattern has V"),
     (BODY.format("kill SIGUSR1"), 2, 6, "BadName", "`rt0` to `rt31`"),
     (BODY.format("lock m"), 2, 6, "UnknownName", "`mutex m inherit`"),
+    (BODY.format("signal rt1"), 2, 8, "UnknownName", "a signal is sent by `kill rt1`"),
     (BODY.format("lock a"), 2, 6, "WrongKind", "`a` is a thread, and a mutex belongs here"),
     (BODY.format("loop 0\nend"), 2, 6, "NumberRange", "1 to 10^18"),
     ("Thread a fifo 5 at 0\nrun 1\nend\n", 1, 1, "UnknownWord", "did you mean `thread`?"),
