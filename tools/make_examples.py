@@ -37,11 +37,12 @@ GALLERY = """\
 Each example is a script with its trace and its picture. In this order they make a short course on realtime scheduling. Under
 each picture stands what the script's comment says of it, tick by tick, with the section of IEEE 1003.1-2017 that has the rule.
 
-To look at one, in a terminal and in a page to zoom and step through:
+To look at one, in a terminal, in a page to zoom and step through, and in a page to change it, with changes to try (docs/LAB.md):
 
 ```
 bin/pse52-view text examples/04_inversion.task
 bin/pse52-view html examples/04_inversion.task > inversion.html
+bin/pse52-lab examples/04_inversion.task
 ```
 
 Or without the program, by the independent reference: `python3 tools/reference/simulate.py run 26 < examples/04_inversion.task`.
