@@ -37,7 +37,7 @@ GALLERY = """\
 Each example is a script with its trace and its picture. In this order they make a short course on realtime scheduling. Under
 each picture stands what the script's comment says of it, tick by tick, with the section of IEEE 1003.1-2017 that has the rule.
 
-To look at one, in a terminal, in a page to zoom and step through, and in a page to change it, with changes to try (docs/LAB.md):
+To look at one, in a terminal, in a page to zoom and step through, and in a page to change it (docs/LAB.md):
 
 ```
 bin/pse52-view text examples/04_inversion.task
