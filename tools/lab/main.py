@@ -3,6 +3,7 @@ from __future__ import annotations
 
 import argparse
 import errno
+import math
 import re
 import secrets
 import signal
@@ -28,12 +29,20 @@ class NoPort(Exception):
     """Why the port cannot be had."""
 
 
+def seconds_of(word: str) -> float:
+    """How long a run may take."""
+    seconds = float(word)
+    if not 0 < seconds < math.inf:
+        raise argparse.ArgumentTypeError(f"'{word}' leaves no run the time to end: a number above 0 is meant")
+    return seconds
+
+
 def command_of(words: list[str]) -> argparse.Namespace:
     """What the words ask for."""
     parser = Words(TOOL, "Serves a page on this machine, to write a script in and see what it does. Ctrl-C ends it.")
     parser.add_argument("link", nargs="?", metavar="LINK|SCRIPT", help="a link of a lesson, or a script, to begin with")
     parser.add_argument("--port", type=int, default=0, metavar="N", help="the port; without it a free one")
-    parser.add_argument("--seconds", type=float, default=10.0, metavar="S", help="how long a run may take; without it 10")
+    parser.add_argument("--seconds", type=seconds_of, default=10.0, metavar="S", help="how long a run may take; without it 10")
     parser.add_argument("--plain", action="store_true", help="a plain text area, also where CodeMirror is installed")
     parser.add_argument("--open", action="store_true", help="open the page in a browser")
     return parser.read(words)

@@ -2,6 +2,7 @@
 from __future__ import annotations
 
 import json
+import subprocess
 import sys
 import tempfile
 import threading
@@ -116,6 +117,13 @@ class Server(unittest.TestCase):
         self.assertTrue(workers)
         self.assertEqual(lab.end(), 0)
         self.assertEqual([worker for worker in workers if alive(worker)], [])
+
+    def test_no_time_for_a_run(self) -> None:
+        for word in ("0", "-3", "nan", "inf", "soon"):
+            ended = subprocess.run([sys.executable, str(TOP / "bin" / "pse52-lab"), f"--seconds={word}"], capture_output=True, text=True,
+                                   timeout=60, check=False)
+            self.assertEqual((ended.returncode, ended.stdout), (1, ""), ended.stderr)
+            self.assertIn(word, ended.stderr)
 
     def test_a_second_signal_does_not_disturb_the_end(self) -> None:
         """As of a Ctrl-C that is pressed twice."""

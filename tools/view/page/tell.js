@@ -3,6 +3,12 @@ const element = (id) => document.getElementById(id);
 // Whether the facts stand below the states; a page that shows them otherwise says no.
 let wanted = "", tellsFacts = true;
 
+// How far two instants are apart, in words.
+function ticksBetween(one, other) {
+  const ticks = one > other ? one - other : other - one;
+  return ticks + (ticks == 1 ? " tick" : " ticks");
+}
+
 function tell() {
   const at = tickAt(place), over = at.point >= last;
   element("tick").textContent = at.tick.toString();
@@ -15,11 +21,12 @@ function tell() {
     return { text: thread.name + " " + text + (thread.server && capacity !== null ? ", capacity " + capacity : "") };
   });
   element("who").textContent = "· " + who;
-  element("distance").textContent = second === null ? "" : "· second cursor " + second + ", " + (second > at.tick ? second - at.tick : at.tick - second) + " ticks from here";
+  element("distance").textContent = second === null ? "" : "· second cursor " + second + ", " + ticksBetween(second, at.tick) + " from here";
   fill(element("states"), tellsFacts ? [...threads, ...facts(at)] : threads);
   fill(element("list"), events(at));
   for (const hear of hearers) hear(at);
 }
+
 // Who stands on which list, and what else the facts say of this instant.
 function facts(at) {
   if (!data.detail || at.point >= last) return [];

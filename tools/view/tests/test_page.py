@@ -147,6 +147,8 @@ class Page(unittest.TestCase):
         self.does('key("+")'), self.does('key("0")')
         self.does('click(33, { shiftKey: true })')
         self.assertIn("second cursor 33, 9 ticks from here", self.does('document.getElementById("distance").textContent'))
+        self.does('click(25, { shiftKey: true })')
+        self.assertIn("second cursor 25, 1 tick from here", self.does('document.getElementById("distance").textContent'))
         self.does('key("Escape")')
         self.assertEqual(self.does("over(36)")[:2], "36")  # and Escape lets it go.
         self.assertEqual(self.does('document.getElementById("distance").textContent'), "")
