@@ -72,15 +72,21 @@ def standard_input():
     return sys.stdin.buffer
 
 
+def encoded(text: str) -> bytes:
+    """A text in UTF-8. Bytes of a word or of a file's name that Python could not decode stand there as they came where they are UTF-8."""
+    return text.encode(errors="surrogateescape").decode(errors="replace").encode()
+
+
 def write(tool: str, text: str | bytes) -> Status:
-    """Writes to standard output, and says where that fails."""
+    """Writes to standard output, and says where that fails; not of a pipe whose reader had enough."""
     try:
         if sys.stdout is None:
             raise OSError(9, os.strerror(9))
-        sys.stdout.buffer.write(text if isinstance(text, bytes) else text.encode())
+        sys.stdout.buffer.write(text if isinstance(text, bytes) else encoded(text))
         sys.stdout.buffer.flush()
     except OSError as error:
-        say(tool, f"the output was not written: {error.strerror}")
+        if not isinstance(error, BrokenPipeError):
+            say(tool, f"the output was not written: {error.strerror}")
         if sys.stdout is not None:
             # What is left in the buffer must not be written, and complained about, at the end of the process.
             os.dup2(os.open(os.devnull, os.O_WRONLY), sys.stdout.fileno())

@@ -48,7 +48,7 @@ class Side:
 def proved_program() -> str | None:
     """The program that bin/pse52 runs here, or None. Behind sudo its user asks, so that what bin/pse52 keeps stays that user's."""
     behind = {word: int(os.environ[name]) for word, name in (("user", "SUDO_UID"), ("group", "SUDO_GID")) if name in os.environ}
-    which = subprocess.run([str(TOP / "bin" / "pse52"), "--which"], stdin=subprocess.DEVNULL, capture_output=True, text=True,
+    which = subprocess.run(["sh", str(TOP / "bin" / "pse52"), "--which"], stdin=subprocess.DEVNULL, capture_output=True, text=True,
                            check=False, **behind)
     return which.stdout.strip() if which.returncode == 0 else None
 

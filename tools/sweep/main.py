@@ -82,7 +82,7 @@ def program_of(said: str | None) -> list[str]:
         if not words or shutil.which(words[0]) is None:
             raise NoProgram(f"'{said}' is no program that can be started")
         return [str(Path(word).resolve()) if os.sep in word and Path(word).exists() else word for word in words]
-    ended = subprocess.run([str(TOP / "bin" / "pse52"), "--which"], stdout=subprocess.PIPE, text=True, check=False)
+    ended = subprocess.run(["sh", str(TOP / "bin" / "pse52"), "--which"], stdout=subprocess.PIPE, text=True, check=False)
     if ended.returncode != 0:
         raise NoProgram(f"--program '{TOP}/bin/pse52 --released' runs the release, --program 'python3 {TOP}/tools/reference/simulate.py' the reference")
     return [ended.stdout.rstrip("\n")]

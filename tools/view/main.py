@@ -103,7 +103,7 @@ def traced(said: argparse.Namespace, progress: Progress) -> tuple[Trace, str]:
     source = path.open("rb") if path else standard_input()
     first = source.peek(1)[:1]
     if said.script is None and (not first or first.isdigit() or first == b"r"):
-        if said.horizon is not None:
+        if said.horizon is not None and first:
             raise Usage("--horizon is for a script, and this is none")
         return read_trace(source, progress.lines), ""
     progress.say("running the script")

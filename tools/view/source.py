@@ -13,7 +13,7 @@ from command import Usage
 TOP = Path(__file__).resolve().parents[2]
 REFERENCE = TOP / "tools" / "reference" / "simulate.py"
 RESPONSE_TIMES = TOP / "tools" / "reference" / "response_times.py"
-USAGE, REFUSED = 1, 2
+USAGE, REFUSED, TOO_LONG = 1, 2, 3
 # The reference takes one tick after another: what it would be asked for beyond that takes minutes.
 MOST_TICKS = 10_000_000
 HORIZON = re.compile(rb"\s*#\s*horizon (\d+)\b")
@@ -41,7 +41,7 @@ def programs(reference: Path) -> list[list[str]]:
     if said:
         first = [shlex.split(said)]
     else:
-        which = subprocess.run([str(TOP / "bin" / "pse52"), "--which"], stdin=subprocess.DEVNULL, capture_output=True, text=True, check=False)
+        which = subprocess.run(["sh", str(TOP / "bin" / "pse52"), "--which"], stdin=subprocess.DEVNULL, capture_output=True, text=True, check=False)
         first = [[which.stdout.rstrip("\n")]] if which.returncode == 0 else []
     return [*first, [sys.executable, str(reference)]]
 
@@ -82,6 +82,8 @@ def _why(ended: subprocess.CompletedProcess[bytes]) -> str:
     if ended.returncode == REFUSED and said:
         number, kind = said[0].split(" ")[1::2]
         return f"the script is refused at line {number}: {kind}; 'pse52 explain SCRIPT' tells all its faults, and what to do"
+    if ended.returncode == TOO_LONG:
+        return "the script has more than 1048576 bytes; shorten it, for instance its comments, or say repeated steps with `loop`"
     return f"the program ended with the status {ended.returncode}" + (f": {said[-1]}" if said else "")
 
 

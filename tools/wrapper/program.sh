@@ -105,6 +105,10 @@ choose_program() {
 
 # Why the release cannot be run here.
 does_not_start() {
+    [ -x "$release" ] || {
+        echo "it may not be executed ('chmod +x release/pse52', or put it where the file system lets programs run)"
+        return
+    }
     echo "it is for $(value_of machine "$manifest") with glibc, and does not start on this machine, $(uname -sm)"
 }
 
@@ -112,6 +116,10 @@ does_not_start() {
 released_program() {
     program=$release
     [ -d "$top/crates" ] || return 0
+    if [ -e "$release" ] && [ ! -x "$release" ]; then
+        say "the release: $(does_not_start)"
+        exit 70
+    fi
     if ! is_of "$release" "$manifest" "$(value_of code "$manifest")"; then
         say 'there is no release here, or it is not the program of release/MANIFEST'
         exit 70

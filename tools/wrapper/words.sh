@@ -31,7 +31,7 @@ END
 
 # The version, and what the release is.
 version_text() {
-    printf 'pse52 %s\n' "$(cat "$top/VERSION" 2>/dev/null)"
+    printf 'pse52 %s\n' "$(cat "$top/VERSION" 2>/dev/null)" || return
     [ ! -e "$top/release/MANIFEST" ] || awk '
         { word = $1; sub(/^[^ ]* /, ""); value[word] = $0 }
         END { print "release " value["version"] " of " value["date"] ", for " value["machine"] ", proved with " value["toolchain"] }
@@ -95,17 +95,23 @@ open_input() {
     input=$1
 }
 
+# The text of a file, or standard input for `-`.
+text_of() {
+    if [ "$1" = - ]; then cat; else cat <"$1"; fi
+}
+
 # A script and a trace as one input, with the line between them: the command with its numbers, the script, the trace. Where the two differ,
 # or the trace breaks a rule, and somebody looks on, the line of the trace is shown; where the script is refused, the line of the script.
 divided() {
-    open_input "$2"
-    open_input "$3"
+    [ "$2 $3" != '- -' ] || refuse "only one of the two files may be '-', which is standard input"
+    [ "$2" = - ] || open_input "$2"
+    [ "$3" = - ] || open_input "$3"
     input=
     # A script whose last line has no end gets one, so that the line %% is a line of its own.
     # shellcheck disable=SC1003,SC2086
-    told=$({ sed -e '$a\' "$2"; echo '%%'; cat "$3"; } | "$self" ${asked:+--$asked} ${explains:+--explain} $1)
+    told=$({ text_of "$2" | sed -e '$a\'; echo '%%'; text_of "$3"; } | sh "$top/bin/pse52" ${asked:+--$asked} ${explains:+--explain} $1)
     status=$?
-    [ -z "$told" ] || printf '%s\n' "$told"
+    [ -z "$told" ] || written printf '%s\n' "$told"
     number=${told#* }
     number=${number%%[!0-9]*}
     case $status in 2) file=$2 ;; 7 | 9) file=$3 ;; *) number= file= ;; esac
@@ -117,14 +123,14 @@ divided() {
 
 # Line $1 of the file $2, and what of it the eye does not see.
 shown_line() {
-    LC_ALL=C awk -v number="$1" -v unended="$(tail -c 1 "$2" | tr -d '\n')" 'NR == number { line = $0 }
+    LC_ALL=C awk -v number="$1" -v unended="$(tail -c 1 <"$2" | tr -d '\n')" 'NR == number { line = $0 }
     END {
         if (NR < number) { print "the file ends before it"; exit }
         note = NR == number && unended != "" ? " (its line end is missing)" : line ~ /[ \t]$/ ? " (a blank stands at its end)" : ""
         if (sub(/\r$/, "", line)) note = " (it ends with byte 13, as lines of Windows do)"
         gsub(/[^ -~]/, "?", line)
         print line note
-    }' "$2"
+    }' <"$2"
 }
 
 # The command that a misspelt word was to be, if one is near: the same letters but one, or two that changed places.
@@ -143,6 +149,8 @@ near() {
             for (j = 1; j <= length(b); j++) {
                 cost = substr(a, i, 1) != substr(b, j, 1)
                 row[i, j] = least(row[i - 1, j] + 1, least(row[i, j - 1] + 1, row[i - 1, j - 1] + cost))
+                if (i > 1 && j > 1 && substr(a, i - 1, 2) == substr(b, j, 1) substr(b, j - 1, 1))
+                    row[i, j] = least(row[i, j], row[i - 2, j - 2] + 1)
             }
         }
         return row[length(a), length(b)]
@@ -156,8 +164,8 @@ answer_words() {
         '') [ "$#" -eq 0 ] || refuse "an empty word is no command; 'pse52 --help' lists the commands"
             help_text >&2
             exit 1 ;;
-        -h | --help | help) help_text; exit 0 ;;
-        -V | --version | version) version_text; exit 0 ;;
+        -h | --help | help) written help_text; exit 0 ;;
+        -V | --version | version) written version_text; exit 0 ;;
         explain) shift; explain_command "$@" ;;
         run | show | detail | check | rta | gen | soak) refuse_operands "$@" ;;
         upgrade | audit)
@@ -165,6 +173,7 @@ answer_words() {
             refuse_files "$@" ;;
         -*) refuse "'$1' is no option; 'pse52 --help' lists the options" ;;
         [0-9]*) refuse "a command comes before its numbers, as in: pse52 run $1 SCRIPT" ;;
+        view | measure | sweep | live | lab | from-ftrace) refuse "'$1' is a command of its own: pse52-$1" ;;
         *.task | *.rta) refuse "a command and its number come before the file: pse52 run 100 $1" ;;
         *)
             meant=$(near "$1")
@@ -214,10 +223,13 @@ refuse_files() {
 # All faults of a script, by the tools beside the program: needs Python alone, and no program.
 explain_command() {
     lines=
-    if [ "${1-}" = --lines ]; then
-        lines=$1
+    count=$#
+    while [ "$count" -gt 0 ]; do
+        word=$1
         shift
-    fi
+        count=$((count - 1))
+        if [ "$word" = --lines ]; then lines=$word; else set -- "$@" "$word"; fi
+    done
     [ "$#" -le 1 ] || refuse 'explain takes one script; write: pse52 explain SCRIPT'
     if ! python3 -c 'import sys; sys.exit(sys.version_info < (3, 11))' 2>/dev/null; then
         say 'explain needs Python 3.11 or later (python3)'

@@ -1,6 +1,7 @@
 """What is told of the faults of a script."""
 from __future__ import annotations
 
+import os
 import subprocess
 import sys
 import tempfile
@@ -147,6 +148,16 @@ class Command(unittest.TestCase):
         self.assertEqual(self.run_on(text_of(BODY.format("run 1"))), (0, "no fault\n"))
         self.assertEqual(self.run_on(b"")[0], 2)
         self.assertEqual(self.run_on(b"\n" * 1_048_577)[0], 3)
+
+    def test_bytes_of_names_and_texts_in_any_locale(self) -> None:
+        with tempfile.TemporaryDirectory() as folder:
+            script = os.fsencode(folder) + b"/\xe4.task"
+            Path(os.fsdecode(script)).write_bytes("thread \u00e4 fifo 5 at 0\nend\n".encode())
+            for locale in ("C", "C.UTF-8"):
+                ended = subprocess.run([sys.executable, str(TOP / "tools/explain/main.py"), "--lines", script], capture_output=True, check=False,
+                                       env=dict(os.environ, LC_ALL=locale, PYTHONUTF8="0", PYTHONCOERCECLOCALE="0"))
+                self.assertEqual(ended.returncode, 2, ended.stderr)
+                self.assertTrue(ended.stdout.startswith(script + b":1:8: BadByte: byte 8 begins the letter '\xc3\xa4'"), ended.stdout)
 
 
 if __name__ == "__main__":

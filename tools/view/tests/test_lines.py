@@ -154,6 +154,8 @@ class Command(unittest.TestCase):
         for given in ([str(file)], ["--script", str(file)]):
             self.assertIn("06_protect: ticks 0 to 26", view(["text", *given], b"").stdout.decode())
         self.assertEqual(view(["text", "/nowhere/x"], b"").returncode, 4)
+        self.assertIn("the text is empty", view(["text", "--horizon", "9"], b"").stderr.decode())
+        self.assertIn("more than 1048576 bytes; shorten it", view([*words, "--horizon", "9"], b"#" * 1_048_577).stderr.decode())
 
     def test_through_links_from_anywhere(self) -> None:
         with tempfile.TemporaryDirectory(suffix=" with blanks") as folder:
@@ -176,6 +178,22 @@ class Command(unittest.TestCase):
         self.assertEqual(ended.returncode, 5)
         self.assertNotIn(b"Traceback", ended.stderr)
 
+    def test_a_reader_that_has_gone_is_no_complaint(self) -> None:
+        reader, writer = os.pipe()
+        os.close(reader)
+        ended = subprocess.run([sys.executable, str(VIEW), "svg"], input=b"0 end\n", stdout=writer, stderr=subprocess.PIPE, check=False)
+        os.close(writer)
+        self.assertEqual((ended.returncode, ended.stderr), (5, b""))
+
+    def test_names_that_are_no_utf8(self) -> None:
+        with tempfile.TemporaryDirectory() as folder:
+            for name, title in ((b"\xc3\xa4", "\u00e4"), (b"\xe4", "\ufffd")):
+                path = os.fsencode(folder) + b"/" + name + b".task"
+                Path(os.fsdecode(path)).write_bytes(b"# horizon 6\nthread a fifo 5 at 0\nrun 2\nend\n")
+                for locale in ("C", "C.UTF-8"):
+                    ended = subprocess.run([sys.executable, str(VIEW), "text", path], capture_output=True, check=False, env=dict(
+                        os.environ, LC_ALL=locale, PYTHONUTF8="0", PYTHONCOERCECLOCALE="0"))
+                    self.assertEqual((ended.returncode, ended.stdout.decode()[:9]), (0, f"{title}: ticks "), ended.stderr)
 
     def test_it_says_how_far_it_is_on_a_terminal(self) -> None:
         trace = b"0 start a\n" + b"0 return a yield 0 0\n" * 45_000 + b"0 end\n"

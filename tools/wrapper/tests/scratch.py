@@ -29,7 +29,7 @@ class Checkout:
 
     @classmethod
     def make(cls, top: Path) -> Checkout:
-        for name in ("wrapper", "explain", "reference"):
+        for name in ("wrapper", "command", "explain", "reference"):
             shutil.copytree(TOP / "tools" / name, top / "tools" / name, ignore=shutil.ignore_patterns("tests", "__pycache__"))
         for name in ("make_release.sh", "install.sh"):
             shutil.copy(TOP / "tools" / name, top / "tools" / name)

@@ -178,19 +178,13 @@ class Programs(unittest.TestCase):
             self.checkout.run("gen", "7")
         self.assertLess((time.monotonic() - began) / 20, 0.5)
 
-    def test_install_and_uninstall(self) -> None:
+    def test_a_release_that_lost_its_mode(self) -> None:
         self.checkout.put_release()
-        for name in ("docs", "completions", "examples", "README.md", "LICENSE", "LICENSE-MIT", "LICENSE-APACHE", "NOTICE", "CHANGELOG.md"):
-            (self.checkout.top / name).symlink_to(Path(__file__).resolve().parents[3] / name)
-        self.checkout.write("crates/parts_links/LICENSE-circular-buffer", "notice\n")
-        with tempfile.TemporaryDirectory() as prefix:
-            install = ["sh", str(self.checkout.top / "tools/install.sh")]
-            subprocess.run([*install, "", prefix], check=True, capture_output=True)
-            ended = self.checkout.run("run", "7", text=SCRIPT, path=Path(prefix) / "bin" / "pse52", cwd=Path("/"))
-            self.assertEqual((ended.status, ended.out, ended.err), (0, RUN, ""))
-            self.assertTrue((Path(prefix) / "share/man/man1/pse52.1").exists())
-            subprocess.run([*install, "--remove", "", prefix], check=True)
-            self.assertEqual([path for path in Path(prefix).rglob("*") if not path.is_dir()], [])
+        (self.checkout.top / "release/pse52").chmod(0o644)
+        for words in (("run", "7"), ("--released", "run", "7")):
+            ended = self.checkout.run(*words, text=SCRIPT)
+            self.assertEqual((ended.status, ended.out, ended.err.count("\n")), (70, "", 1))
+            self.assertIn("chmod +x release/pse52", ended.err)
 
 
 class Proofs(unittest.TestCase):

@@ -16,6 +16,7 @@ WRONG = [
     ("run -5", "no number is negative"), ("run 2.5", "ticks are whole numbers"), ("run 10ms", "without a unit"),
     ("run s.task", "pse52 run 100 s.task"), ("run s.task 20", "pse52 run 20 s.task"), ("run 1000000000000000001", "10^18"),
     ("run 1 s.task s.task", "a word too many"), ("show", "pse52 show N SCRIPT"), ("show 1 2 3", "a word too many"), ("shov 7", "did you mean 'show'?"),
+    ("sohw 7", "did you mean 'show'?"), ("rnu 7 s.task", "did you mean 'run'?"), ("view svg s.task", "pse52-view"), ("check 7 - -", "only one"),
     ("detail", "pse52 detail N SCRIPT"), ("detail 1 2 3", "a word too many"), ("details 7", "did you mean 'detail'?"), ("rta 100000001", "100000000"), ("7", "a command comes before its numbers"),
     ("s.task", "pse52 run 100 s.task"), ("rum 7", "did you mean 'run'?"), ("SHOW 7", "did you mean 'show'?"), ("run 7 --frob", "no option and no file"), ("frobnicate", "--help"), ("--frob", "no option"),
     ("soak 7", "needs two numbers"), ("gen", "pse52 gen S"), ("gen x", "a number from 0 to 10^18"), ("check 7 s.task", "a script and a trace"),
@@ -116,6 +117,37 @@ class Words(unittest.TestCase):
         self.assertEqual((ended.status, ended.out), (9, "breach 2 4\n"))
         self.assertIn("line 2 of t.trace: two\n", ended.err)
 
+    def test_files_of_any_name_beside_one_another(self) -> None:
+        self.checkout.put_release()
+        self.checkout.write("-n", "trace\n")
+        text = f"release: check 7\n{SCRIPT}%%\ntrace\n"
+        self.assertEqual(self.checkout.run("check", "7", "s.task", "-n").out, text)
+        self.assertEqual(self.checkout.run("check", "7", "s.task", "-", text="trace\n").out, text)
+        self.assertEqual(self.checkout.run("check", "7", "-", "-n", text=SCRIPT).out, text)
+        self.checkout.write("-e", SCRIPT)
+        self.assertEqual(self.checkout.run("check", "7", "-e", "-n").out, text)
+
+    def test_by_its_name_alone(self) -> None:
+        self.checkout.put_release()
+        ended = subprocess.run(["sh", "pse52", "check", "7", "../s.task", "../s.task"], cwd=self.checkout.top / "bin", text=True,
+                               capture_output=True, check=False)
+        self.assertEqual((ended.returncode, ended.stdout), (0, f"release: check 7\n{SCRIPT}%%\n{SCRIPT}"))
+
+    def test_an_output_that_is_not_written(self) -> None:
+        self.checkout.put_release()
+        for words in ("--help", "--version", "--which", "check 7 s.task s.task", "explain s.task"):
+            with open("/dev/full", "wb") as full:
+                ended = subprocess.run([self.checkout.top / "bin/pse52", *words.split()], stdout=full, stderr=subprocess.PIPE, text=True,
+                                       cwd=self.checkout.top, check=False)
+            self.assertEqual((ended.returncode, ended.stderr.count("\n")), (5, 1), words)
+            self.assertIn("not", ended.stderr)
+            reader, writer = os.pipe()
+            os.close(reader)
+            ended = subprocess.run([self.checkout.top / "bin/pse52", *words.split()], stdout=writer, stderr=subprocess.PIPE, text=True,
+                                   cwd=self.checkout.top, check=False)
+            os.close(writer)
+            self.assertEqual((ended.returncode, ended.stderr), (5, ""), words)
+
     def test_which(self) -> None:
         self.checkout.put_built()
         self.assertEqual(self.checkout.run("--which").out, f"{self.checkout.top.resolve()}/crates/pse52/out/pse52\n")
@@ -142,6 +174,7 @@ class Explanations(unittest.TestCase):
             self.assertIn("line 2, column 1: UnknownWord", ended.out)
         lines = self.checkout.run("explain", "--lines", "wrong.task").out
         self.assertTrue(lines.startswith("wrong.task:2:1: UnknownWord: "), lines)
+        self.assertEqual(self.checkout.run("explain", "wrong.task", "--lines").out, lines)
 
     def test_by_a_flag(self) -> None:
         for words, text in ((("--explain", "run", "7"), self.wrong), (("run", "7", "wrong.task", "--explain"), "")):
