@@ -3,6 +3,7 @@ from __future__ import annotations
 
 import argparse
 import os
+import signal
 import sys
 from collections.abc import Callable, Mapping
 from enum import IntEnum
@@ -48,12 +49,21 @@ def told(wrong: Exception) -> str:
     return f"{wrong.filename}: {wrong.strerror}" if isinstance(wrong, OSError) and wrong.filename else str(wrong)
 
 
+def end_by(number: signal.Signals) -> int:
+    """Ends by a signal, so that a shell's loop over commands ends too."""
+    signal.signal(number, signal.SIG_DFL)
+    os.kill(os.getpid(), number)
+    return 128 + number
+
+
 def carried_out(tool: str, work: Callable[[], int], statuses: Mapping[type[Exception], int]) -> int:
     """Does the work of a command. Of an exception it is said what is wrong; `statuses` has what is returned then."""
     try:
         return work()
     except SystemExit as ended:  # --help and --version
         return Status.DONE if ended.code == 0 else Status.USAGE
+    except KeyboardInterrupt:
+        return end_by(signal.SIGINT)
     except Usage as wrong:
         say(tool, f"{wrong}; --help tells all")
         return Status.USAGE

@@ -13,7 +13,7 @@ from pathlib import Path
 
 sys.path.insert(0, str(Path(__file__).resolve().parent.parent))
 
-from command import say, write  # noqa: E402
+from command import carried_out, say, standard_input, write  # noqa: E402
 from explain.show import in_one_line_each, shown  # noqa: E402
 from explain.text import GREATEST_TEXT, faults_of  # noqa: E402
 
@@ -28,7 +28,7 @@ def main(words: list[str]) -> int:
         print(__doc__, file=sys.stderr)
         return 1
     try:
-        with sys.stdin.buffer if words[0] == "-" else open(words[0], "rb") as source:
+        with standard_input() if words[0] == "-" else open(words[0], "rb") as source:
             text = source.read(GREATEST_TEXT + 1)
     except OSError as error:
         say(TOOL, f"{words[0]}: {error.strerror}")
@@ -44,4 +44,4 @@ def main(words: list[str]) -> int:
 
 
 if __name__ == "__main__":
-    sys.exit(main(sys.argv[1:]))
+    sys.exit(carried_out(TOOL, lambda: main(sys.argv[1:]), {}))

@@ -4,7 +4,6 @@ from __future__ import annotations
 import argparse
 import os
 import signal
-import sys
 from enum import IntEnum
 from pathlib import Path
 
@@ -93,14 +92,14 @@ def carry_out(said: argparse.Namespace) -> Status:
     side = other_side(said.program)
     options = Options(core=said.core, tick=said.tick, times=said.times, handlers_in_waits=said.handlers)
     result = run_script(text, said.horizon, side, options)
-    sys.stdout.write("".join(line + "\n" for line in result.last.found.lines))
+    command.write(TOOL, "".join(line + "\n" for line in result.last.found.lines))  # what differs is told also where that fails
     return report(result, side)
 
 
 def carefully(words: list[str]) -> int:
     """Does what the words ask for, where this machine lets it."""
     why = why_not() or refused_by_kernel()
-    if why is not None and not {"-h", "--help"} & set(words):
+    if why is not None and not {"-h", "--help", "--version"} & set(words):
         raise NotAllowed(why)
     said = words_of(words)
     try:

@@ -20,6 +20,10 @@ run_and_explain() {
                 tell_terminal "$@"
                 kept_script=$folder/script
                 trap 'rm -rf "$folder"' EXIT
+                for signal in HUP INT TERM; do
+                    # shellcheck disable=SC2064
+                    trap "rm -rf \"\$folder\"; trap - $signal; kill -$signal \$\$" "$signal"
+                done
                 tee "$kept_script" 2>/dev/null | "$program" "$@"
                 status=$?
             else

@@ -1,11 +1,13 @@
 """Runs on this machine's kernel, where that is possible."""
 from __future__ import annotations
 
+import io
 import shutil
 import sys
 import unittest
+from unittest import mock
 
-from live import TOP
+from live import TOP, main
 from live.due import REFERENCE, Side
 from live.rig import Result, run_script
 from live.settings import NotAllowed, refused_by_kernel, why_not
@@ -13,6 +15,27 @@ from live.settings import NotAllowed, refused_by_kernel, why_not
 from .kept import CASES
 
 SIDE = Side((sys.executable, str(REFERENCE)), "the reference")
+
+
+class Words(unittest.TestCase):
+    """The command, without a kernel."""
+
+    def test_the_version_needs_no_root(self) -> None:
+        with mock.patch.object(main, "why_not", lambda: "it is not allowed"), mock.patch("sys.stdout", io.StringIO()) as told, \
+                mock.patch("sys.stderr", io.StringIO()):
+            self.assertEqual(main.main(["--version"]), 0)
+            self.assertEqual(main.main(["s.task", "20"]), 4)
+        self.assertTrue(told.getvalue().startswith("pse52-live "))
+
+    def test_a_trace_that_cannot_be_written_is_reported_all_the_same(self) -> None:
+        result = mock.Mock()
+        result.last.found.lines = ["0 end"]
+        said = mock.Mock(script=TOP / "examples" / "one_thread.task")
+        with open("/dev/full", "w") as full, mock.patch.object(main, "other_side"), mock.patch.object(main, "run_script", lambda *_: result), \
+                mock.patch.object(main, "report", lambda *_: main.Status.KNOWN), mock.patch("sys.stdout", full), \
+                mock.patch("sys.stderr", io.StringIO()) as told:
+            self.assertEqual(main.carry_out(said), main.Status.KNOWN)
+        self.assertIn("was not written", told.getvalue())
 
 
 class OnThisKernel(unittest.TestCase):

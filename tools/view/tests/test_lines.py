@@ -3,6 +3,7 @@ from __future__ import annotations
 
 import os
 import pty
+import signal
 import subprocess
 import sys
 import tempfile
@@ -184,6 +185,16 @@ class Command(unittest.TestCase):
         ended = subprocess.run([sys.executable, str(VIEW), "svg"], input=b"0 end\n", stdout=writer, stderr=subprocess.PIPE, check=False)
         os.close(writer)
         self.assertEqual((ended.returncode, ended.stderr), (5, b""))
+
+    def test_an_interrupt_is_no_fault_of_the_program(self) -> None:
+        process = subprocess.Popen([sys.executable, str(VIEW), "text"], stdin=subprocess.PIPE, stdout=subprocess.PIPE, stderr=subprocess.PIPE,
+                                   preexec_fn=lambda: signal.signal(signal.SIGINT, signal.default_int_handler))
+        for _ in range(2):  # it is read in blocks of some size, and an interrupt counts once it reads
+            process.stdin.write(b"0 start a\n" * 100_000)
+        process.stdin.flush()
+        process.send_signal(signal.SIGINT)
+        said = process.communicate()[1]
+        self.assertEqual((process.returncode, said), (-signal.SIGINT, b""))
 
     def test_names_that_are_no_utf8(self) -> None:
         with tempfile.TemporaryDirectory() as folder:

@@ -3,6 +3,7 @@ from __future__ import annotations
 
 import os
 import pty
+import signal
 import subprocess
 import tempfile
 import unittest
@@ -206,6 +207,25 @@ class Explanations(unittest.TestCase):
             told = self.on_a_terminal(words)
             self.assertIn("refused 2 2 UnknownWord\n", told)
             self.assertIn("did you mean `run`?", told, words)
+
+    def test_an_interrupted_run_leaves_nothing(self) -> None:
+        self.checkout.write("crates/pse52/out/pse52", "#!/bin/sh\necho ready\nexec sleep 60\n")
+        subprocess.run(["sh", str(self.checkout.top / "tools/wrapper/record.sh"), self.checkout.sum("sources")], check=True)
+        kept = self.checkout.top / "kept"
+        kept.mkdir()
+        for number in (signal.SIGINT, signal.SIGTERM, signal.SIGHUP):
+            # A shell without a terminal has SIGINT ignored, and what is ignored cannot be trapped.
+            process = subprocess.Popen([self.checkout.top / "bin/pse52", "--explain", "run", "7"], stdin=subprocess.PIPE, stdout=subprocess.PIPE,
+                                       stderr=subprocess.DEVNULL, env=dict(os.environ, TMPDIR=str(kept)), start_new_session=True,
+                                       preexec_fn=lambda: signal.signal(signal.SIGINT, signal.SIG_DFL))
+            process.stdin.write(SCRIPT.encode())
+            process.stdin.close()
+            self.assertEqual(process.stdout.readline(), b"ready\n")
+            self.assertEqual(len(list(kept.iterdir())), 1)
+            os.killpg(process.pid, number)
+            self.assertEqual(process.wait(), -number)
+            process.stdout.close()
+            self.assertEqual(list(kept.iterdir()), [])
 
     def test_a_reader_that_has_gone_is_no_complaint(self) -> None:
         self.checkout.write("crates/pse52/out/pse52", "#!/bin/sh\nexit 5\n")
