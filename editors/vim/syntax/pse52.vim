@@ -8,6 +8,9 @@ syntax case match
 syntax match pse52Comment /#.*$/ contains=@Spell
 syntax match pse52Number /\<\d\+\>/
 syntax match pse52Signal /\<rt\%([0-9]\|[12][0-9]\|3[01]\)\>/
+" Words of these two lines that are steps at the beginning of one.
+syntax match pse52Word /\%(^\s*action\s\+\S\+\s\+\)\@<=run\>/
+syntax match pse52Word /\<set\>/
 syntax match pse52Declaration /^\s*\zs\%(version\|quantum\|thread\|handler\|cleanup\|mutex\|cond\|sem\|queue\|timer\|action\)\>/
 syntax match pse52Block /^\s*\zs\%(if\|unless\|loop\|forever\|push\|pop\|end\)\>/
 syntax match pse52Step /^\s*\zs\%(run\|set\|add\|take\)\>/

@@ -63,10 +63,15 @@ class Editors(unittest.TestCase):
     """The files for editors know every word of the language."""
 
     @staticmethod
-    def words() -> set[str]:
+    def lines() -> list[str]:
+        """A line of each form, with 9 at its places."""
         sys.path.append(str(TOP / "tools" / "reference"))
         from forms import FORMS, is_place
-        return {word for form in FORMS for word in form.words if not is_place(word) and word.isidentifier()}
+        return [" ".join("9" if is_place(word) else word for word in form.words) for form in FORMS]
+
+    @classmethod
+    def words(cls) -> set[str]:
+        return {word for line in cls.lines() for word in line.split() if word.isidentifier()}
 
     def test_vim(self) -> None:
         text = (TOP / "editors" / "vim" / "syntax" / "pse52.vim").read_text()
@@ -82,6 +87,30 @@ class Editors(unittest.TestCase):
         patterns = [re.compile(pattern["match"]) for pattern in grammar["patterns"]]
         for word in self.words():
             self.assertTrue(any(pattern.search(word) for pattern in patterns), word)
+        for line in self.lines():
+            left = line
+            while found := min((match for pattern in patterns if (match := pattern.search(left))), key=re.Match.start, default=None):
+                left = left[:found.start()] + " " * len(found[0]) + left[found.end():]
+            self.assertEqual(left.split(), [], line)
+
+    def without_colour(self, vim: str, home: Path) -> list[str]:
+        """The lines of forms in which Vim gives a letter no colour."""
+        script, seen, look = home / "forms.task", home / "uncoloured", home / "look.vim"
+        script.write_text("\n".join(self.lines()) + "\n")
+        look.write_text(f"""let uncoloured = []
+for line in range(1, line('$'))
+  for column in range(1, len(getline(line)))
+    if getline(line)[column - 1] != ' ' && synID(line, column, 1) == 0
+      let uncoloured += [getline(line)]
+    endif
+  endfor
+endfor
+call writefile(uncoloured, '{seen}')
+qa!
+""")
+        subprocess.run([vim, "-N", "-n", "-u", str(home / ".vimrc"), "-es", str(script), "-c", f"source {look}"], cwd=home,
+                       env=dict(os.environ, HOME=str(home)), stdin=subprocess.DEVNULL, capture_output=True, timeout=60, check=False)
+        return seen.read_text().splitlines()
 
     def test_vim_as_it_is_installed(self) -> None:
         """Vim's own filetype.vim has another type for *.task; the installed files come first."""
@@ -93,6 +122,7 @@ class Editors(unittest.TestCase):
             home, seen, script = Path(folder), Path(folder) / "seen", Path(folder) / "first.task"
             shutil.copytree(TOP / "editors" / "vim", home / ".vim")
             (home / ".vimrc").write_text("filetype plugin indent on\nsyntax on\n")
+            self.assertEqual(self.without_colour(vim, home), [])
             script.write_text("# comment\nthread a fifo 5 at 0\nloop 2\nrun 1\nend\nend\n")
             lines = ["normal gg=G", "let text = join(getline(1, '$'), '/')",
                      f"call writefile([&filetype, &commentstring, &makeprg, synIDattr(synID(2,1,1),'name'), text], '{seen}')", "qa!"]
