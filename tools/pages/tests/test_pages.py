@@ -90,8 +90,8 @@ class Editors(unittest.TestCase):
         for line in self.lines():
             left = line
             while found := min((match for pattern in patterns if (match := pattern.search(left))), key=re.Match.start, default=None):
-                left = left[:found.start()] + " " * len(found[0]) + left[found.end():]
-            self.assertEqual(left.split(), [], line)
+                left = left[:found.start()] + "\0" * len(found[0]) + left[found.end():]
+            self.assertEqual(left.replace("\0", "").split(), [], line)
 
     def without_colour(self, vim: str, home: Path) -> list[str]:
         """The lines of forms in which Vim gives a letter no colour."""
