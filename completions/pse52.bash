@@ -14,8 +14,8 @@ _pse52() {
     esac
     case $command in
         '') mapfile -t COMPREPLY < <(compgen -W 'run show detail check audit rta upgrade gen soak explain' -- "$word") ;;
-        explain | upgrade | audit | check) mapfile -t COMPREPLY < <(compgen -f -- "$word") ;;
-        run | show | detail | rta) ((COMP_CWORD > at + 1)) && mapfile -t COMPREPLY < <(compgen -f -- "$word") ;;
+        explain | upgrade | audit) mapfile -t COMPREPLY < <(compgen -f -- "$word") ;;
+        run | show | detail | rta | check) ((COMP_CWORD > at + 1)) && mapfile -t COMPREPLY < <(compgen -f -- "$word") ;;
     esac
 }
 _pse52_view() {
@@ -38,6 +38,10 @@ _pse52_measure() {
 }
 _pse52_sweep() {
     local word=${COMP_WORDS[COMP_CWORD]}
+    if [ "${COMP_WORDS[COMP_CWORD - 1]}" = --engine ]; then
+        mapfile -t COMPREPLY < <(compgen -W 'parallel xargs' -- "$word")
+        return
+    fi
     case $word in
         -*) mapfile -t COMPREPLY < <(compgen -W '--jobs --sshlogin --output --by --columns --plot --over --program --engine --anew --version --help' -- "$word") ;;
         *) mapfile -t COMPREPLY < <(compgen -f -X '!*.toml' -- "$word"; compgen -d -- "$word") ;;

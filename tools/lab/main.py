@@ -12,7 +12,7 @@ import webbrowser
 from pathlib import Path
 from urllib.parse import quote
 
-from command import Status, Words, carried_out
+from command import Status, Words, carried_out, write
 from view.source import horizon_of
 
 from .desk import Desk
@@ -81,14 +81,15 @@ def served(words: list[str]) -> int:
         lab = Lab(said.port, secrets.token_urlsafe(24), parts(said.plain), desk)
     except (OSError, OverflowError) as error:
         raise NoPort(f"the port {said.port} cannot be had: {getattr(error, 'strerror', None) or error}") from None
-    for pane in ("a", "b"):
-        threading.Thread(target=desk.prepare, args=[pane], daemon=True).start()
     for asked in ENDING:  # SIGINT too: a shell without a terminal has it ignored in the background
         signal.signal(asked, end)
-    print(lab.address + fragment, flush=True)
-    if said.open:
-        webbrowser.open(lab.address + fragment)
     try:
+        if write(TOOL, f"{lab.address}{fragment}\n") != Status.DONE:
+            return Status.WRITE_FAULT
+        for pane in ("a", "b"):
+            threading.Thread(target=desk.prepare, args=[pane], daemon=True).start()
+        if said.open:
+            webbrowser.open(lab.address + fragment)
         lab.serve_forever()
     except KeyboardInterrupt:
         pass

@@ -2,6 +2,7 @@
 from __future__ import annotations
 
 import json
+import os
 import subprocess
 import sys
 import tempfile
@@ -108,6 +109,18 @@ class Server(unittest.TestCase):
         fault = json.loads(text)["faults"][0]
         self.assertEqual((fault["line"], fault["column"], fault["word"], fault["kind"]), (2, 5, "rum", "UnknownWord"))
         self.assertIn("run", fault["mend"])
+
+    def test_an_address_that_nobody_gets(self) -> None:
+        for device, said in (("/dev/full", "pse52-lab: the output was not written: No space left on device\n"), (None, "")):
+            reader, writer = os.pipe()
+            os.close(reader)
+            if device is not None:
+                os.close(writer)
+                writer = os.open(device, os.O_WRONLY)
+            ended = subprocess.run([sys.executable, str(TOP / "bin" / "pse52-lab")], stdout=writer, stderr=subprocess.PIPE, text=True,
+                                   timeout=30, check=False)
+            os.close(writer)
+            self.assertEqual((ended.returncode, ended.stderr), (5, said))
 
     def test_the_workers_end_with_the_server(self) -> None:
         lab = Served()

@@ -3,8 +3,10 @@ from __future__ import annotations
 
 import os
 import pty
+import re
 import signal
 import subprocess
+import sys
 import tempfile
 import unittest
 from pathlib import Path
@@ -234,18 +236,45 @@ class Explanations(unittest.TestCase):
         self.assertIn("could not be written", self.on_a_terminal("bin/pse52 gen 7"))
 
 
+class Pythons(unittest.TestCase):
+    def test_an_older_python_is_told(self) -> None:
+        top = Path(__file__).parents[3]
+        for tool in ("view", "measure", "sweep", "live", "lab", "from-ftrace"):
+            older = f"import runpy, sys; sys.version_info = (3, 10, 2); runpy.run_path({str(top / 'bin' / f'pse52-{tool}')!r}, run_name='__main__')"
+            ended = subprocess.run([sys.executable, "-c", older], capture_output=True, text=True, check=False)
+            self.assertEqual((ended.returncode, ended.stderr), (70, f"pse52-{tool}: Python 3.11 or later is needed, and this is 3.10\n"))
+
+
 class Completion(unittest.TestCase):
     """What bash offers behind words."""
 
-    def offered(self, *words: str) -> list[str]:
+    def offered(self, *words: str, function: str = "_pse52") -> list[str]:
         file = Path(__file__).parents[3] / "completions/pse52.bash"
-        asked = '. "$0"; COMP_WORDS=("$@"); COMP_CWORD=$(($# - 1)); _pse52; printf "%s\\n" "${COMPREPLY[@]}"'
+        asked = f'. "$0"; COMP_WORDS=("$@"); COMP_CWORD=$(($# - 1)); {function}; printf "%s\\n" "${{COMPREPLY[@]}}"'
         return subprocess.run(["bash", "-c", asked, str(file), *words], capture_output=True, text=True, check=True).stdout.split()
 
     def test_options(self) -> None:
         self.assertEqual(self.offered("pse52", "explain", "-"), ["--lines"])
         self.assertEqual(self.offered("pse52", "run", "5", "--rel"), ["--released"])
         self.assertEqual(self.offered("pse52", "expl"), ["explain"])
+
+    def test_each_option_of_help_is_in_the_manual_and_offered(self) -> None:
+        top = Path(__file__).parents[3]
+        texts = {name: (top / "completions" / name).read_text() for name in ("pse52.bash", "_pse52", "pse52.fish")}
+        for tool in ("", "-view", "-measure", "-sweep", "-live", "-lab", "-from-ftrace"):
+            told = subprocess.run([top / f"bin/pse52{tool}", "--help"], capture_output=True, text=True, check=True).stdout
+            options = set(re.findall(r"(?<![\w-])--([a-z]+)", told))
+            bash = re.search(rf"_pse52{tool.replace('-', '_')}\(\) \{{(.*?)\n\}}", texts["pse52.bash"], re.S)[1]
+            zsh = re.search(rf"\n  pse52{tool}\)(.*?);;", texts["_pse52"], re.S)[1]
+            self.assertEqual({f"--{option}" for option in options}, set(re.findall(r"--[a-z]+", bash)), tool)
+            self.assertEqual({f"--{option}" for option in options}, set(re.findall(r"--[a-z]+", zsh)), tool)
+            self.assertEqual(options, set(re.findall(rf"complete -c pse52{tool} .*-l ([a-z]+)", texts["pse52.fish"])), tool)
+            self.assertEqual(options, set(re.findall(r"Fl -([a-z]+)", (top / f"docs/pse52{tool}.1").read_text())), tool)
+
+    def test_words_of_an_operand(self) -> None:
+        self.assertEqual(self.offered("pse52", "check", ""), [])
+        self.assertNotEqual(self.offered("pse52", "check", "7", ""), [])
+        self.assertEqual(self.offered("pse52-sweep", "--engine", "", function="_pse52_sweep"), ["parallel", "xargs"])
 
 
 if __name__ == "__main__":
