@@ -34,7 +34,10 @@ def words_of(words: list[str]) -> argparse.Namespace:
     parser.add_argument("--measures", type=Path, metavar="FILE", help="measure the jobs that the tables [[measure]] of this file say")
     parser.add_argument("--csv", action="store_true", help="write one CSV: table, of, what, figure, value")
     parser.add_argument("--rta", action="store_true", help="also the periodic tasks of the script, and the response times that are proved for them")
+    parser.add_argument("file", nargs="?", help=argparse.SUPPRESS)  # as pse52-view has it: it is told what to write
     said = parser.read(words)
+    if said.file is not None:
+        raise Usage(f"'{said.file}' stands alone: write --script {said.file} where it is a script, or < {said.file} where it is a trace")
     if said.script is None and (said.horizon is not None or said.rta):
         raise Usage("--horizon and --rta need --script FILE")
     if said.horizon is not None and not 0 <= said.horizon <= 10**18:

@@ -13,7 +13,7 @@ from collections.abc import Iterator
 from enum import IntEnum
 from pathlib import Path
 
-from command import told
+from command import Usage, Words, told
 from measure.measures import filled, never_done
 
 from .engine import NoEngine, Work, results
@@ -48,10 +48,7 @@ def count_of(word: str) -> int:
 
 
 def words_of(words: list[str]) -> argparse.Namespace:
-    parser = argparse.ArgumentParser(
-        prog="pse52-sweep", allow_abbrev=False,
-        description="Runs one script with many values, and writes a table SWEEP.csv with a line for each run.")
-    parser.add_argument("--version", action="version", version=f"pse52-sweep {(TOP / 'VERSION').read_text().strip()}")
+    parser = Words("pse52-sweep", "Runs one script with many values, and writes a table SWEEP.csv with a line for each run.")
     parser.add_argument("sweep", type=Path, metavar="SWEEP.toml")
     parser.add_argument("--jobs", type=count_of, default=os.cpu_count() or 1, metavar="N", help="runs at once, on each machine")
     parser.add_argument("--sshlogin", metavar="HOSTS", help="machines, as GNU parallel takes them; ':' is this one")
@@ -64,7 +61,7 @@ def words_of(words: list[str]) -> argparse.Namespace:
                         help="what runs a script; without it PSE52 of the environment, or bin/pse52")
     parser.add_argument("--engine", choices=("parallel", "xargs"), help="without it GNU parallel where that is here")
     parser.add_argument("--anew", action="store_true", help="forget the rows that are done")
-    said = parser.parse_args(words)
+    said = parser.read(words)
     if said.columns and not said.by:
         parser.error("--columns are some of those that --by NAME puts together, and without it nothing is")
     if said.over and not said.plot:
@@ -228,6 +225,9 @@ def main(words: list[str]) -> Status:
         said = words_of(words)
     except SystemExit as ended:
         return Status.DONE if ended.code == 0 else Status.USAGE
+    except Usage as wrong:
+        print(f"pse52-sweep: {wrong}; --help tells all", file=sys.stderr)
+        return Status.USAGE
     for number in (signal.SIGTERM, signal.SIGHUP):
         signal.signal(number, signal.default_int_handler)
     try:

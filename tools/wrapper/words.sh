@@ -55,7 +55,7 @@ meaning_of() {
 # What is wrong with a word at the place of a number: the command, the word, and what stands behind it.
 refuse_number() {
     wrong="$1: '$2' is not $(meaning_of "$1")"
-    if [ -f "$2" ]; then
+    if [ -f "$2" ] && [ "$1" != check ] && [ "$1" != gen ] && [ "$1" != soak ]; then
         case ${3-} in '' | *[!0-9]*) number=100 ;; *) number=$3 ;; esac
         refuse "$wrong; the number comes first, and then the file: pse52 $1 $number $2"
     fi

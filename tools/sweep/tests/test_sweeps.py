@@ -301,7 +301,9 @@ class Sweeps(Folder):
 
     def test_words_and_files_that_are_wrong(self) -> None:
         self.write()
-        self.assertEqual(self.sweep("--jobs", "0").returncode, 1)
+        for words in (["--jobs", "0"], ["--frob"], ["--engine", "ls"]):
+            ended = self.sweep(*words)
+            self.assertEqual((ended.returncode, ended.stderr.count("\n")), (1, 1), ended.stderr)
         self.assertEqual(self.sweep("--plot", "speed").returncode, 2)
         self.assertEqual(self.sweep("--plot", "a", "--over", "a,b,c").returncode, 2)
         for words, named in (("--columns", "a_greatest"), "--by"), (("--over", "long"), "--plot"):

@@ -20,6 +20,7 @@ WRONG = [
     ("run s.task", "pse52 run 100 s.task"), ("run s.task 20", "pse52 run 20 s.task"), ("run 1000000000000000001", "10^18"),
     ("run 1 s.task s.task", "a word too many"), ("show", "pse52 show N SCRIPT"), ("show 1 2 3", "a word too many"), ("shov 7", "did you mean 'show'?"),
     ("sohw 7", "did you mean 'show'?"), ("rnu 7 s.task", "did you mean 'run'?"), ("view svg s.task", "pse52-view"), ("check 7 - -", "only one"),
+    ("check s.task 7 s.task", "pse52 check N SCRIPT TRACE"), ("gen s.task", "pse52 gen S"), ("soak s.task 7", "pse52 soak S N"),
     ("detail", "pse52 detail N SCRIPT"), ("detail 1 2 3", "a word too many"), ("details 7", "did you mean 'detail'?"), ("rta 100000001", "100000000"), ("7", "a command comes before its numbers"),
     ("s.task", "pse52 run 100 s.task"), ("rum 7", "did you mean 'run'?"), ("SHOW 7", "did you mean 'show'?"), ("run 7 --frob", "no option and no file"), ("frobnicate", "--help"), ("--frob", "no option"),
     ("soak 7", "needs two numbers"), ("gen", "pse52 gen S"), ("gen x", "a number from 0 to 10^18"), ("check 7 s.task", "a script and a trace"),
