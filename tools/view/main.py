@@ -17,7 +17,7 @@ from measure.measures import WrongMeasure, measure_of_words
 from .lines import NotATraceLine, Trace, read_trace
 from .progress import Progress
 from .releases import mark_jobs
-from .source import NoSource, detail_of
+from .source import GREATEST_SCRIPT, NoSource, detail_of
 from .seen import timeline_of
 from .timeline import Timeline
 from .window import NoWindow, window
@@ -107,7 +107,7 @@ def traced(said: argparse.Namespace, progress: Progress) -> tuple[Trace, str]:
             raise Usage("--horizon is for a script, and this is none")
         return read_trace(source, progress.lines), ""
     progress.say("running the script")
-    return read_trace(detail_of(source.read(), said.horizon, TOOL), progress.lines), path.stem if path else ""
+    return read_trace(detail_of(source.read(GREATEST_SCRIPT + 1), said.horizon, TOOL), progress.lines), path.stem if path else ""
 
 
 def picture(said: argparse.Namespace, progress: Progress) -> str | bytes:

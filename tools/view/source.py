@@ -14,6 +14,7 @@ TOP = Path(__file__).resolve().parents[2]
 REFERENCE = TOP / "tools" / "reference" / "simulate.py"
 RESPONSE_TIMES = TOP / "tools" / "reference" / "response_times.py"
 USAGE, REFUSED, TOO_LONG = 1, 2, 3
+GREATEST_SCRIPT = 1_048_576  # bytes
 # The reference takes one tick after another: what it would be asked for beyond that takes minutes.
 MOST_TICKS = 10_000_000
 HORIZON = re.compile(rb"\s*#\s*horizon (\d+)\b")
@@ -83,7 +84,7 @@ def _why(ended: subprocess.CompletedProcess[bytes]) -> str:
         number, kind = said[0].split(" ")[1::2]
         return f"the script is refused at line {number}: {kind}; 'pse52 explain SCRIPT' tells all its faults, and what to do"
     if ended.returncode == TOO_LONG:
-        return "the script has more than 1048576 bytes; shorten it, for instance its comments, or say repeated steps with `loop`"
+        return f"the script has more than {GREATEST_SCRIPT} bytes; shorten it, for instance its comments, or say repeated steps with `loop`"
     return f"the program ended with the status {ended.returncode}" + (f": {said[-1]}" if said else "")
 
 

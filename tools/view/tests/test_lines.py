@@ -170,6 +170,18 @@ class Command(unittest.TestCase):
         self.assertEqual(ended.returncode, 0)
         self.assertIn(b"perfetto", ended.stdout)
 
+    def test_a_script_without_end(self) -> None:
+        process = subprocess.Popen([sys.executable, str(VIEW), "text", "--horizon", "9"], stdin=subprocess.PIPE, stdout=subprocess.DEVNULL,
+                                   stderr=subprocess.PIPE)
+        process.stdin.write(b"#" * 1_048_577)
+        process.stdin.flush()
+        try:
+            self.assertEqual(process.wait(60), 2)
+            self.assertIn(b"more than 1048576 bytes", process.stderr.read())
+        finally:
+            process.kill()
+            process.communicate()
+
     def test_a_full_device(self) -> None:
         if not os.path.exists("/dev/full"):
             self.skipTest("there is no /dev/full here")
