@@ -5,6 +5,9 @@
 PREFIX = /usr/local
 DESTDIR =
 
+all:
+	@echo 'Nothing is to be built: make install PREFIX=/usr/local, or make check'
+
 check:
 	bash tools/check_tools.sh
 	bash tools/check_tools.sh lab
@@ -17,4 +20,4 @@ install:
 uninstall:
 	sh tools/install.sh --remove "$(DESTDIR)" "$(PREFIX)"
 
-.PHONY: check install uninstall
+.PHONY: all check install uninstall

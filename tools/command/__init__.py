@@ -2,6 +2,7 @@
 from __future__ import annotations
 
 import argparse
+import contextlib
 import os
 import signal
 import sys
@@ -9,6 +10,8 @@ from collections.abc import Callable, Mapping
 from enum import IntEnum
 from pathlib import Path
 
+if sys.stderr is None:  # it was closed, and what asks or writes there finds a stream all the same
+    sys.stderr = open(os.devnull, "w", encoding="utf-8")
 VERSION = Path(__file__).resolve().parents[2] / "VERSION"
 
 
@@ -40,8 +43,14 @@ class Words(argparse.ArgumentParser):
         return self.parse_intermixed_args(words)
 
 
+def tell(line: str) -> None:
+    """Writes a line to standard error. Where that cannot be, the exit status alone tells what it does."""
+    with contextlib.suppress(OSError):
+        print(line, file=sys.stderr, flush=True)
+
+
 def say(tool: str, text: str) -> None:
-    print(f"{tool}: {text}", file=sys.stderr)
+    tell(f"{tool}: {text}")
 
 
 def told(wrong: Exception) -> str:

@@ -8,7 +8,7 @@ import subprocess
 import sys
 from pathlib import Path
 
-from command import Usage
+from command import Usage, tell
 
 TOP = Path(__file__).resolve().parents[2]
 REFERENCE = TOP / "tools" / "reference" / "simulate.py"
@@ -74,7 +74,7 @@ def answer(words: list[str], source: bytes, reference: Path, tool: str) -> bytes
 def _tell(line: str) -> None:
     """Says a line on standard error, once."""
     if line not in _TOLD:
-        print(line, file=sys.stderr)
+        tell(line)
         _TOLD.add(line)
 
 

@@ -16,7 +16,7 @@ run_and_explain() {
                 kept_script=/dev/stdin
                 "$program" "$@"
                 status=$?
-            elif [ "$1" != check ] && [ "$1" != audit ] && folder=$(mktemp -d 2>/dev/null); then
+            elif [ -e /dev/stdin ] && [ ! -d /dev/stdin ] && [ "$1" != check ] && [ "$1" != audit ] && folder=$(mktemp -d 2>/dev/null); then
                 tell_terminal "$@"
                 kept_script=$folder/script
                 trap 'rm -rf "$folder"' EXIT

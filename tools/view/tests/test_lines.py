@@ -139,6 +139,13 @@ class Command(unittest.TestCase):
             self.assertEqual(ended.returncode, status, ended.stderr)
             self.assertNotIn(b"Traceback", ended.stderr)
 
+    def test_without_standard_error_the_status_tells(self) -> None:
+        script = TOP / "examples" / "06_protect.task"
+        for where in ("2>&-", "2>/dev/full"):
+            for words, status in ((f"text {script}", 0), ("text /nowhere/x", 4), ("text --colour", 1)):
+                ended = subprocess.run(["sh", "-c", f"{sys.executable} {VIEW} {words} {where}"], stdout=subprocess.PIPE, check=False)
+                self.assertEqual((ended.returncode, bool(ended.stdout)), (status, status == 0), (words, where))
+
     def test_what_is_wrong_with_a_line(self) -> None:
         for trace, why in ((b"0 idle\n\n", "it is empty"), (b"0 idle\r\n", "Windows line end"), (b"refused 4 2 UnknownWord\n", "mend the script")):
             self.assertIn(why, view(["text"], trace).stderr.decode())

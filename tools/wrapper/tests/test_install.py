@@ -2,6 +2,7 @@
 from __future__ import annotations
 
 import os
+import shutil
 import subprocess
 import tempfile
 import unittest
@@ -59,6 +60,11 @@ class Install(unittest.TestCase):
     def test_a_path_that_lacks_it_is_told(self) -> None:
         self.assertIn(f'export PATH="{self.prefix}/bin:$PATH"', self.install("", str(self.prefix)).stdout)
         self.assertNotIn("export", self.install("", str(self.prefix), path=f"{self.prefix}/bin:").stdout)
+
+    def test_make_alone_tries_nothing(self) -> None:
+        if shutil.which("make") is None:
+            self.skipTest("make is not here")
+        self.assertNotIn("check_tools", subprocess.run(["make", "-n", "-C", TOP], capture_output=True, text=True, check=True).stdout)
 
     def test_what_does_not_go_is_a_fault(self) -> None:
         self.prefix.mkdir()

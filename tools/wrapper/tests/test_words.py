@@ -186,6 +186,14 @@ class Explanations(unittest.TestCase):
             self.assertEqual((ended.status, ended.out), (2, "refused 2 2 UnknownWord\n"))
             self.assertIn("did you mean `run`?", ended.err)
 
+    def test_an_input_that_cannot_be_read(self) -> None:
+        self.checkout.write("crates/pse52/out/pse52", "#!/bin/sh\ncat >/dev/null 2>&1 || exit 4\n")
+        subprocess.run(["sh", str(self.checkout.top / "tools/wrapper/record.sh"), self.checkout.sum("sources")], check=True)
+        for closed in ("<&-", "<bin"):
+            ended = subprocess.run(["sh", "-c", f"bin/pse52 --explain run 7 {closed}"], capture_output=True, text=True, cwd=self.checkout.top,
+                                   check=False)
+            self.assertEqual((ended.returncode, ended.stderr), (4, "pse52: the text could not be read\n"), closed)
+
     def test_without_a_flag_standard_error_stays_empty(self) -> None:
         ended = self.checkout.run("run", "7", "wrong.task")
         self.assertEqual((ended.status, ended.out, ended.err), (2, "refused 2 2 UnknownWord\n", ""))
