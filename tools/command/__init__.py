@@ -84,10 +84,12 @@ def carried_out(tool: str, work: Callable[[], int], statuses: Mapping[type[Excep
         return Status.READ_FAULT
 
 
-def standard_input():
-    """The bytes of standard input. Raises OSError where it is closed."""
+def standard_input(tool: str = "", what: str = ""):
+    """The bytes of standard input. Where that is a terminal it is told what is read there. Raises OSError where it is closed."""
     if sys.stdin is None:
         raise OSError(9, os.strerror(9))
+    if what and sys.stdin.isatty() and sys.stderr.isatty():
+        say(tool, f"{what} read from this terminal, up to Ctrl-D at a line's beginning; --help tells more")
     return sys.stdin.buffer
 
 

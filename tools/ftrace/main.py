@@ -21,7 +21,7 @@ def carry_out(words: list[str]) -> Status:
     parser.add_argument("--trace", action="store_true", help="write the trace alone, as for pse52-view")
     said = parser.read(words)
     names = read_map(said.map.read_text(errors="replace"))
-    text = standard_input().read().decode(errors="replace")
+    text = standard_input(TOOL, "the text of ftrace is").read().decode(errors="replace")
     read = read_log(text)
     found = converted(kept(read, names), names)
     for remark in [*doubts(text, read, names), *found.remarks()]:

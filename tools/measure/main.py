@@ -60,7 +60,7 @@ def measures_of(said: argparse.Namespace) -> list[Measure]:
 def seen_of(said: argparse.Namespace) -> Seen:
     """The trace or detail that is measured."""
     if said.script is None:
-        return Seen(read_trace(standard_input()))
+        return Seen(read_trace(standard_input(TOOL, "a trace is")))
     return Seen(read_trace(detail_of(said.script.read_bytes(), said.horizon, TOOL)))
 
 

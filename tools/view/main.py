@@ -100,7 +100,7 @@ def traced(said: argparse.Namespace, progress: Progress) -> tuple[Trace, str]:
     path = said.script or said.file
     if path == Path("-"):
         path = None
-    source = path.open("rb") if path else standard_input()
+    source = path.open("rb") if path else standard_input(TOOL, "a trace or a script is")
     first = source.peek(1)[:1]
     if said.script is None and (not first or first.isdigit() or first == b"r"):
         if said.horizon is not None and first:

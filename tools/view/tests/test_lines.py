@@ -139,6 +139,17 @@ class Command(unittest.TestCase):
             self.assertEqual(ended.returncode, status, ended.stderr)
             self.assertNotIn(b"Traceback", ended.stderr)
 
+    def test_a_terminal_that_is_read_is_told(self) -> None:
+        for tool, words, what in (("view", ["text"], "a trace or a script"), ("measure", [], "a trace"),
+                                  ("from-ftrace", [str(TOP / "tools/ftrace/tests/server.map")], "the text of ftrace")):
+            ours, theirs = pty.openpty()
+            with open(theirs, "r+b", buffering=0) as terminal:
+                process = subprocess.Popen([sys.executable, str(TOP / "bin" / f"pse52-{tool}"), *words], stdin=terminal, stderr=terminal)
+            self.assertIn(f"pse52-{tool}: {what} is read from this terminal, up to Ctrl-D", os.read(ours, 4096).decode())
+            os.write(ours, b"\x04\x04")
+            self.assertEqual(process.wait(60), 2)
+            os.close(ours)
+
     def test_without_standard_error_the_status_tells(self) -> None:
         script = TOP / "examples" / "06_protect.task"
         for where in ("2>&-", "2>/dev/full"):
