@@ -3,6 +3,7 @@ from __future__ import annotations
 
 import os
 import pty
+import select
 import signal
 import subprocess
 import sys
@@ -145,10 +146,11 @@ class Command(unittest.TestCase):
             ours, theirs = pty.openpty()
             with open(theirs, "r+b", buffering=0) as terminal:
                 process = subprocess.Popen([sys.executable, str(TOP / "bin" / f"pse52-{tool}"), *words], stdin=terminal, stderr=terminal)
-            self.assertIn(f"pse52-{tool}: {what} is read from this terminal, up to Ctrl-D", os.read(ours, 4096).decode())
+            said = os.read(ours, 4096).decode() if select.select([ours], [], [], 20)[0] else "nothing"
             os.write(ours, b"\x04\x04")
             self.assertEqual(process.wait(60), 2)
             os.close(ours)
+            self.assertIn(f"pse52-{tool}: {what} is read from this terminal, up to Ctrl-D", said)
 
     def test_without_standard_error_the_status_tells(self) -> None:
         script = TOP / "examples" / "06_protect.task"
