@@ -106,6 +106,9 @@ divided() {
     [ "$2 $3" != '- -' ] || refuse "only one of the two files may be '-', which is standard input"
     [ "$2" = - ] || open_input "$2"
     [ "$3" = - ] || open_input "$3"
+    case "$2 $3" in
+        '- '* | *' -') [ ! -t 0 ] || say "'-' is read from this terminal, up to Ctrl-D at a line's beginning" ;;
+    esac
     input=
     # A script whose last line has no end gets one, so that the line %% is a line of its own.
     # shellcheck disable=SC1003,SC2086

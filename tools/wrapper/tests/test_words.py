@@ -238,6 +238,15 @@ class Explanations(unittest.TestCase):
             process.stdout.close()
             self.assertEqual(list(kept.iterdir()), [])
 
+    def test_a_terminal_beside_a_file_is_told(self) -> None:
+        leader, follower = pty.openpty()
+        os.write(leader, b"\x04\x04")
+        ended = subprocess.run([self.checkout.top / "bin/pse52", "check", "7", "s.task", "-"], stdin=follower, capture_output=True, text=True,
+                               cwd=self.checkout.top, timeout=60, check=False)
+        os.close(leader)
+        os.close(follower)
+        self.assertIn("'-' is read from this terminal, up to Ctrl-D", ended.stderr)
+
     def test_a_reader_that_has_gone_is_no_complaint(self) -> None:
         self.checkout.write("crates/pse52/out/pse52", "#!/bin/sh\nexit 5\n")
         subprocess.run(["sh", str(self.checkout.top / "tools/wrapper/record.sh"), self.checkout.sum("sources")], check=True)
