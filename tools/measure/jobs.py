@@ -12,11 +12,14 @@ from collections.abc import Iterable
 from dataclasses import dataclass
 from fractions import Fraction
 
-from view.lines import Deliver
+from view.lines import Deliver, Start
 
 from .seen import Seen
 
 SLEEP = "call clock_nanosleep"
+# The calls in which a thread waits for its next job.
+NEXT_JOB = ("clock_nanosleep", "nanosleep", "sigwaitinfo", "sigtimedwait", "sem_wait", "sem_timedwait", "mq_receive", "mq_timedreceive",
+            "wait", "timedwait")
 
 
 class NamesNothing(Exception):
@@ -124,6 +127,16 @@ def behind_a_lost_signal(seen: Seen, thread: str, period: int, phase: int, to: s
         if event.code == "TIMER" and phase + (bisect_right(done, event.time) + 1) * period < event.time:
             return event.time
     return None
+
+
+def in_its_first_job(seen: Seen, thread: str, release: int) -> bool:
+    """Whether a thread lives at the end, and nothing tells that it has done the job of this release.
+
+    It has where it called twice, since then, what it waits in for a job. The first such call may only begin the job.
+    """
+    if not seen.places.get((Start, thread)) or seen.exited(thread) is not None:
+        return False
+    return all(sum(time > release for time in seen.calls(thread, call)) < 2 for call in NEXT_JOB)
 
 
 def answered(seen: Seen, begin: str, to: str, thread: str | None) -> Jobs:

@@ -9,11 +9,12 @@ from command import Status, Usage, Words, carried_out, say, standard_input, writ
 from view.lines import NotATraceLine, read_trace
 from view.source import NoSource, detail_of
 
-from .jobs import NamesNothing, SLEEP
-from .measures import Measure, WrongMeasure, lost_signal, measure_of, measure_of_words, without_places
+from .jobs import NamesNothing
+from .measures import Measure, WrongMeasure, measure_of, measure_of_words, without_places
+from .notes import notes_of
 from .rta import Analysis, remarks, rta_table
 from .seen import Seen
-from .tables import as_csv, as_text, jobs_table, share, tables_of
+from .tables import as_csv, as_text, share, tables_of
 from .tasks import NoTask
 
 TOOL = "pse52-measure"
@@ -66,30 +67,11 @@ def seen_of(said: argparse.Namespace) -> Seen:
 
 def check(seen: Seen, measures: list[Measure]) -> list[str]:
     """What must be said beside the figures. Raises NamesNothing where a measure names what never comes."""
-    notes = []
-    for measure, row in zip(measures, jobs_table(seen, measures).rows):
-        if row[1] == row[-1]:
-            raise NamesNothing(f"measure '{measure.name}': {_nothing(measure, row[1])}")
-        if measure.warning:
-            notes.append(measure.warning)
-        lost = lost_signal(seen, measure.words)
-        if lost is not None:
-            notes.append(f"measure '{measure.name}': at {lost} its thread takes a signal of a timer that lost one before, since the last was "
-                         "pending; no job ends for that release, and each job behind it counts as later than it is")
-        if measure.needs_detail and not seen.is_detail and seen.stands_at_the_end(str(measure.words["thread"])):
-            notes.append(f"measure '{measure.name}': a trace does not tell whether the last job is done, since a call that waits has no "
-                         "line; with --script FILE, or of a detail, it is told")
+    notes = notes_of(seen, measures)
     if not seen.is_detail:
         notes.append("a trace does not tell what a thread waits for, nor at which priority it runs on; "
                      "with --script FILE, or of a detail, that is measured too")
     return notes
-
-
-def _nothing(measure: Measure, jobs: str) -> str:
-    """Why no job of a measure is done."""
-    if jobs == "0":
-        return f"'{measure.words.get('from', 'a release')}' begins no job in this trace"
-    return f"of {jobs} jobs none is done, for '{measure.words.get('to', SLEEP)}' does not come behind the beginning of one"
 
 
 def heading(seen: Seen) -> str:

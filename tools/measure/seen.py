@@ -95,7 +95,8 @@ class Seen:
     def lines(self, words: list[str]) -> list[tuple[int, int]]:
         """The events, as (line, time), whose words behind their time begin with these; `*` stands for any word."""
         found = re.compile(r"\d+ " + " ".join(r"\S+" if word == "*" else re.escape(word) for word in words) + r"(?: |$)").match
-        numbers = range(len(self.trace.lines)) if "*" in words[:2] else self.places.get((EVENTS.get(words[0]), *words[1:2]), ())
+        anywhere = len(words) == 1 or "*" in words[:2]
+        numbers = range(len(self.trace.lines)) if anywhere else self.places.get((EVENTS.get(words[0]), words[1]), ())
         return [(number, self.trace.events[number][0]) for number in numbers if found(self.trace.lines[number])]
 
     @cached_property

@@ -9,18 +9,18 @@ import signal
 import subprocess
 import sys
 import time
-from collections.abc import Iterator
 from enum import IntEnum
 from pathlib import Path
 
 from command import Usage, Words, told
-from measure.measures import filled, never_done
+from measure.measures import Measure
 
 from .engine import NoEngine, Work, results
 from .groups import columns_of, grouped, lined_up
 from .plan import Sweep, WrongSweep, read_sweep
 from .plot import NoPlot, draw, gnuplot
 from .table import Kept, read_table, table
+from .unfinished import hidden, measured, none_done, nothing_done
 
 TOP = Path(__file__).resolve().parents[2]
 
@@ -118,9 +118,8 @@ def _span(seconds: float) -> str:
     return f"{seconds / 60:.0f} min" if seconds < 6000 else f"{seconds / 3600:.1f} h"
 
 
-def carry_out(sweep: Sweep, said: argparse.Namespace) -> Path:
+def carry_out(sweep: Sweep, said: argparse.Namespace, program: list[str]) -> Path:
     """Carries out the runs that are not done yet, and writes the table. The rows stay, so that the same words need no run again."""
-    program = program_of(said.program)
     kept_file = sweep.beside(said.output, ".rows")
     if said.anew:
         kept_file.unlink(missing_ok=True)
@@ -153,31 +152,13 @@ def over_of(sweep: Sweep, said: str | None) -> list[str]:
     return names
 
 
-def complaints(sweep: Sweep, rows: list[dict[str, str]]) -> list[str]:
-    """What is wrong with the measures as the runs show it: the first fault of a run that was measured, and measures that never had a job done."""
+def complaints(rows: list[dict[str, str]], misnamed: list[Measure]) -> list[str]:
+    """What is wrong with the measures as the runs show it: the first fault of a run that was measured, and measures that name no end of a job."""
     faults = [row["fault"] for row in rows if row["status"] == "0" and row["fault"]]
     found = [f"{len(faults)} of {len(rows)} runs could not be measured; the first: {faults[0]}"] if faults else []
-    measured = [row for row in rows if row["status"] == "0" and not row["fault"]]
-    if not measured and not faults:
+    if not measured(rows) and not faults:
         found.append("no run ended with a trace, so nothing is measured")
-    for measure in sweep.measures:
-        if measured and never_done(measure, measured):
-            found.append(f"measure '{measure.name}': in no run a job is done; does 'to' name what comes?")
-    return found
-
-
-def hidden(sweep: Sweep, rows: list[dict[str, str]]) -> Iterator[str]:
-    """Which measures have runs whose late jobs no response time shows, since they are not done at the end."""
-    for measure in sweep.measures:
-        late, greatest = f"{measure.name}_late", f"{measure.name}_greatest"
-        count = 0
-        for row in rows if late in measure.columns else ():
-            words = filled(measure.words, {name: int(row[name]) for name in sweep.names})
-            deadline = words.get("deadline", words.get("period"))
-            count += row[late] not in ("", "0") and int(row[greatest] or 0) <= deadline
-        if count:
-            yield (f"measure '{measure.name}': in {count} of {len(rows)} runs the late jobs are not done at the end: '{late}' counts them, "
-                   f"and '{greatest}' and the other response times do not")
+    return found + [f"measure '{measure.name}': in no run a job is done; does 'to' name what comes?" for measure in misnamed]
 
 
 def refusals(rows: list[dict[str, str]]) -> str | None:
@@ -203,16 +184,18 @@ def carried_out(said: argparse.Namespace) -> None:
         gnuplot()
     for warning in filter(None, (measure.warning for measure in sweep.measures)):
         print(f"pse52-sweep: {warning}", file=sys.stderr)
-    path = carry_out(sweep, said)
+    program = program_of(said.program)
+    path = carry_out(sweep, said, program)
     rows = read_table(path)
     print(path)
     if by:
         print(lined_up(grouped(rows, by, sweep.measures, columns)), end="")
     if refused := refusals(rows):
         print(f"pse52-sweep: {refused}", file=sys.stderr)
-    for note in hidden(sweep, rows):
+    undone = list(none_done(sweep, rows, program))
+    for note in [*hidden(sweep, rows), *(nothing_done(measure) for measure, starved in undone if starved)]:
         print(f"pse52-sweep: {note}", file=sys.stderr)
-    if wrong := complaints(sweep, rows):
+    if wrong := complaints(rows, [measure for measure, starved in undone if not starved]):
         raise NamedNothing("; ".join(wrong))
     if said.plot is not None:
         picture = sweep.beside(said.output, f"-{said.plot}.svg")

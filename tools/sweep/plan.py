@@ -16,6 +16,8 @@ from measure.measures import NUMBERS, Measure, WrongMeasure, measure_of
 MOST_RUNS = 1_000_000
 GREATEST_NUMBER = 10**18
 PLACE = re.compile(r"\{([a-z][a-z0-9_]*)\}")
+# The endings of columns with response times.
+RESPONSE = re.compile(r"least|mean|greatest|p\d+")
 RESERVED = ("status", "fault")
 # The exit statuses that a run has by its script and words alone: it would end so again.
 LASTING = frozenset(("0", "1", "2", "3"))
@@ -104,7 +106,7 @@ class Sweep:
     def deadline_of(self, column: str) -> int | None:
         """The deadline of the measure whose response times stand in this column, where it is one number."""
         for measure in self.measures:
-            if column in measure.columns and column.removeprefix(f"{measure.name}_") in ("least", "mean", "greatest"):
+            if column in measure.columns and RESPONSE.fullmatch(column.removeprefix(f"{measure.name}_")):
                 deadline = measure.words.get("deadline", measure.words.get("period"))
                 return deadline if isinstance(deadline, int) else None
         return None

@@ -10,7 +10,7 @@ from collections.abc import Callable
 from importlib import import_module
 from pathlib import Path
 
-from command import Status, Usage, Words, carried_out, standard_input, write
+from command import Status, Usage, Words, carried_out, say, standard_input, write
 from measure.jobs import NamesNothing
 from measure.measures import WrongMeasure, measure_of_words
 
@@ -115,7 +115,11 @@ def picture(said: argparse.Namespace, progress: Progress) -> str | bytes:
     trace, title = traced(said, progress)
     progress.say("putting the picture together")
     seen: Timeline = timeline_of(trace)
-    mark_jobs(seen, [measure_of_words(words) for words in said.jobs])
+    notes = mark_jobs(seen, [measure_of_words(words) for words in said.jobs])
+    if notes:
+        progress.done()
+    for note in notes:
+        say(TOOL, note)
     seen = window(seen, said.start, said.end, said.threads)
     seen.title = title if said.title is None else said.title
     seen.tick = said.tick or ("1us" if said.format in OF_LINUX else "")

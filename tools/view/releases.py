@@ -3,24 +3,30 @@ from __future__ import annotations
 
 from measure.jobs import Job
 from measure.measures import Measure, jobs_of
+from measure.notes import ends_by, notes_of
 from measure.seen import Seen
 
 from .timeline import Mark, MarkKind, Timeline
 
 
-def mark_jobs(seen: Timeline, measures: list[Measure]) -> None:
-    """Puts the jobs of each measure above the thread that does them. Raises NamesNothing where a measure names what is not there."""
+def mark_jobs(seen: Timeline, measures: list[Measure]) -> list[str]:
+    """Puts the jobs of each measure above the thread that does them, and tells what a reader of the picture must know.
+
+    Raises NamesNothing where a measure names what is not there.
+    """
     trace = Seen(seen.trace)
+    notes = notes_of(trace, measures)
     threads = {thread.name: thread for thread in seen.threads}
     for measure in measures:
         jobs = jobs_of(trace, measure.words)
-        thread = threads.get(str(measure.words.get("thread") or str(measure.words["to"]).split()[1]))
+        thread = threads.get(str(measure.words.get("thread") or "".join(ends_by(measure).split()[1:2])))
         if thread is None:
             continue
         deadline = measure.words.get("deadline", measure.words.get("period"))
         for number, job in enumerate(jobs.jobs):
             thread.marks += _marks(number, job, deadline, jobs.end)
         thread.marks.sort(key=lambda mark: mark.time)
+    return notes
 
 
 def _marks(number: int, job: Job, deadline: int | None, end: int) -> list[Mark]:

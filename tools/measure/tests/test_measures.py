@@ -224,6 +224,10 @@ class Measures(unittest.TestCase):
         self.assertEqual([time for _, time in controller.lines(["return", "srv"])], [33, 36, 40])
         self.assertEqual([time for _, time in controller.lines(["exhaust", "*"])], [40, 43])
         self.assertEqual(controller.lines(["return", "s"]), [])
+        # A word alone begins the lines of all threads, and those that have no thread.
+        self.assertEqual([time for _, time in controller.lines(["exhaust"])], [40, 43])
+        self.assertEqual([time for _, time in controller.lines(["idle"])], [7])
+        self.assertEqual([time for _, time in controller.lines(["end"])], [44])
 
     def test_a_signal_of_a_timer_that_is_lost(self) -> None:
         """The job of 40 ends at 69. The signal of 50 is pending then, that of 60 is lost, and of the next, of 70, the tool takes it for that of 60."""

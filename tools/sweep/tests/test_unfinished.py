@@ -5,6 +5,7 @@ import math
 import unittest
 from pathlib import Path
 
+from sweep.plan import read_sweep
 from sweep.plot import greatest_at, script, with_gaps
 
 from .test_sweeps import Folder
@@ -51,6 +52,24 @@ class Unfinished(Folder):
         self.assertIn("measure 'low': in 1 of 3 runs the late jobs are not done at the end: 'low_late' counts them", ended.stderr)
         self.write(STARVING_TOML.replace("[4, 17, 18]", "[4, 17]"), STARVING)
         self.assertNotIn("not done at the end", self.sweep().stderr)
+
+    def test_a_thread_that_is_starved_in_all_runs(self) -> None:
+        """With 18 and 19 low has a tick in all. Without hog in its way it does its jobs, and one whose end is not that of `to` is an error."""
+        self.write(STARVING_TOML.replace("[4, 17, 18]", "[18, 19]"), STARVING)
+        ended = self.sweep("--by", "work", "--columns", "low_greatest,low_late,low_open")
+        self.assertEqual((ended.returncode, [line.split() for line in ended.stdout.splitlines()[2:]]), (0, [["18", "1", "0", "4", "5"], ["19", "1", "0", "4", "5"]]))
+        self.assertIn("measure 'low': in no run a job is done, so there is no response time", ended.stderr)
+        self.write(STARVING_TOML.replace("[4, 17, 18]", "[3, 4]") + 'to = "return low gettime"\n', STARVING)
+        ended = self.sweep()
+        self.assertEqual(ended.returncode, 2)
+        self.assertIn("measure 'low': in no run a job is done; does 'to' name what comes?", ended.stderr)
+
+    def test_a_plot_of_response_times_has_the_deadline(self) -> None:
+        self.write(STARVING_TOML + "percentiles = [90]\n", STARVING)
+        sweep = read_sweep(self.folder / "two.toml")
+        deadlines = {column: sweep.deadline_of(f"low_{column}") for column in ("jobs", "least", "mean", "p90", "greatest", "jitter", "late", "open")}
+        self.assertEqual({column for column, deadline in deadlines.items() if deadline == 40}, {"least", "mean", "p90", "greatest"})
+        self.assertEqual({deadline for deadline in deadlines.values()}, {40, None})
 
     def test_the_picture_has_a_gap(self) -> None:
         rows = [{"x": str(x), "m": figure} for x, figure in ((0, ""), (1, "5"), (2, ""), (3, "7"), (9, ""))]

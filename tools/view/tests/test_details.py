@@ -6,6 +6,7 @@ import sys
 import unittest
 import xml.etree.ElementTree as ElementTree
 
+from measure.jobs import NamesNothing
 from measure.measures import measure_of_words
 from view.axis import Axis
 from view.html import data_of
@@ -267,6 +268,24 @@ class Pictures(unittest.TestCase):
         self.assertLessEqual({(10, "release"), (20, "release"), (10, "late"), (20, "late"), (30, "late"), (50, "late")}, marks)
         self.assertEqual(seen.threads[1].ended, 43)
         self.assertEqual(drawer("vcd")(seen), plain)
+
+    def test_what_a_reader_of_the_jobs_must_know(self) -> None:
+        """c ends its job of 40 at 69: the signal of the timer for 50 is pending then, and that for 60 is lost. The words are those of pse52-measure."""
+        job = "sigwaitinfo rt1\nrun 2\n"
+        seen = seen_of(detail_of(("timer beat rt1 0\nthread c fifo 8 at 0\nsigmask block rt1\ntimer_settime beat abs 10 10\n"
+                                  f"loop 3\n{job}end\nsigwaitinfo rt1\nrun 28\nforever\n{job}end\nend\n").encode(), 120))
+        words = 'thread=c period=10 phase=10 to="call sigwaitinfo"'
+        notes = mark_jobs(seen, [measure_of_words(words)])
+        self.assertIn("measure 'c': at 69 its thread takes a signal of a timer that lost one before", notes[0])
+        with self.assertRaisesRegex(NamesNothing, "none is done, for 'return c yield'"):
+            mark_jobs(seen, [measure_of_words('thread=c period=10 phase=10 to="return c yield"')])
+
+    def test_jobs_that_end_by_a_line_without_a_thread(self) -> None:
+        seen = seen_of(detail_of(b"thread a fifo 5 at 2\nrun 3\nend\n", 20))
+        self.assertEqual(mark_jobs(seen, [measure_of_words('from="start a" to=idle')]), [])
+        self.assertEqual([mark for thread in seen.threads for mark in thread.marks if mark.sentence], [])
+        mark_jobs(seen, [measure_of_words('from="start a" to=idle thread=a')])
+        self.assertEqual([mark.sentence for mark in seen.threads[0].marks if mark.sentence], ["job 0 is released at 2; done at 6, 4 ticks"])
 
     def test_a_part_behind_the_end_of_a_thread(self) -> None:
         part = window(seen_of(detail_of(b"thread a fifo 5 at 0\nrun 2\nend\nthread b fifo 4 at 20\nrun 2\nend\n", 30)), 10, 30, None)

@@ -1,0 +1,57 @@
+"""What must be said beside the figures of jobs, or beside a picture of them."""
+from __future__ import annotations
+
+from .jobs import SLEEP, NamesNothing, in_its_first_job
+from .measures import Measure, jobs_of, lost_signal
+from .seen import Seen
+
+
+def notes_of(seen: Seen, measures: list[Measure]) -> list[str]:
+    """What a reader of the jobs must know. Raises NamesNothing where a measure names what never comes."""
+    found = []
+    for measure in measures:
+        notes = measure.warning, _none_done(seen, measure), _lost(seen, measure), _not_told(seen, measure)
+        found += filter(None, notes)
+    return found
+
+
+def ends_by(measure: Measure) -> str:
+    return str(measure.words.get("to", SLEEP))
+
+
+def is_starved(seen: Seen, measure: Measure) -> bool:
+    """Whether no job is done, and nothing tells that the thread that ends them has done its first one."""
+    jobs = jobs_of(seen, measure.words)
+    if not jobs.jobs or len(jobs.open) < len(jobs.jobs):
+        return False
+    words = ends_by(measure).split()
+    thread = str(measure.words["thread"]) if words[0] == "call" else "".join(words[1:2])
+    return in_its_first_job(seen, thread, jobs.jobs[0].release)
+
+
+def _none_done(seen: Seen, measure: Measure) -> str | None:
+    jobs = jobs_of(seen, measure.words)
+    count, to = len(jobs.jobs), ends_by(measure)
+    if not count:
+        raise NamesNothing(f"measure '{measure.name}': '{measure.words.get('from', 'a release')}' begins no job in this trace")
+    if len(jobs.open) < count:
+        return None
+    if not is_starved(seen, measure):
+        raise NamesNothing(f"measure '{measure.name}': of {count} jobs none is done, for '{to}' does not come behind the beginning of one")
+    return (f"measure '{measure.name}': of {count} jobs none is done, so there is no response time, and only late and open ones are counted; "
+            f"the thread is still in the first, or '{to}' is not what ends one")
+
+
+def _lost(seen: Seen, measure: Measure) -> str | None:
+    lost = lost_signal(seen, measure.words)
+    if lost is None:
+        return None
+    return (f"measure '{measure.name}': at {lost} its thread takes a signal of a timer that lost one before, since the last was "
+            "pending; no job ends for that release, and each job behind it counts as later than it is")
+
+
+def _not_told(seen: Seen, measure: Measure) -> str | None:
+    if measure.needs_detail and not seen.is_detail and seen.stands_at_the_end(str(measure.words["thread"])):
+        return (f"measure '{measure.name}': a trace does not tell whether the last job is done, since a call that waits has no "
+                "line; with --script FILE, or of a detail, it is told")
+    return None
