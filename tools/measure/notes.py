@@ -10,7 +10,7 @@ def notes_of(seen: Seen, measures: list[Measure]) -> list[str]:
     """What a reader of the jobs must know. Raises NamesNothing where a measure names what never comes."""
     found = []
     for measure in measures:
-        notes = measure.warning, _none_done(seen, measure), _lost(seen, measure), _not_told(seen, measure)
+        notes = measure.warning, _none_done(seen, measure), _lost(seen, measure), _ended(seen, measure), _not_told(seen, measure)
         found += filter(None, notes)
     return found
 
@@ -48,6 +48,19 @@ def _lost(seen: Seen, measure: Measure) -> str | None:
         return None
     return (f"measure '{measure.name}': at {lost} its thread takes a signal of a timer that lost one before, since the last was "
             "pending; no job ends for that release, and each job behind it counts as later than it is")
+
+
+def _ended(seen: Seen, measure: Measure) -> str | None:
+    """A thread that ends has a release behind its last job, as it jumped back or slept for it, and no job there."""
+    ended = seen.exited(str(measure.words.get("thread")))
+    if measure.words["kind"] != "periodic" or ended is None:
+        return None
+    jobs = jobs_of(seen, measure.words)
+    done = len(jobs.jobs) - len(jobs.open)
+    if done == len(jobs.jobs):
+        return None
+    return (f"measure '{measure.name}': its thread ended at {ended}, and of {len(jobs.jobs)} jobs that were released up to there {done} are done; "
+            f"where it has no more, say jobs={done}")
 
 
 def _not_told(seen: Seen, measure: Measure) -> str | None:

@@ -56,6 +56,23 @@ class Starved(unittest.TestCase):
             with self.assertRaisesRegex(NamesNothing, "jobs none is done, for", msg=words):
                 notes_of(self.seen(script, horizon), [measure_of_words(words)])
 
+    def test_the_second_sleep_tells_that_the_first_job_is_done(self) -> None:
+        """low, alone, sleeps from 5 to 20 and from 26 on: up to 25 it may be in the middle of its first job."""
+        measure = measure_of_words('thread=low period=20 to="return low yield"')
+        for horizon in (4, 6, 24, 25):
+            self.assertIn("the thread is still in the first, or 'return low yield' is not what ends one", notes_of(self.seen(LOW, horizon), [measure])[0])
+        for horizon in (27, 30):
+            with self.assertRaises(NamesNothing, msg=horizon):
+                notes_of(self.seen(LOW, horizon), [measure])
+
+    def test_a_thread_that_ends_behind_a_release(self) -> None:
+        """Its jobs are those of 0 and 20. Behind the second it sleeps up to 40, and its end takes a tick."""
+        seen = self.seen(LOW.replace("forever", "loop 2"), 90)
+        self.assertEqual(self.row(seen, measure_of_words("thread=low period=20"))["jobs"], "3")
+        self.assertEqual(notes_of(seen, [measure_of_words("thread=low period=20")]),
+                         ["measure 'low': its thread ended at 41, and of 3 jobs that were released up to there 2 are done; where it has no more, say jobs=2"])
+        self.assertEqual(notes_of(seen, [measure_of_words("thread=low period=20 jobs=2")]), [])
+
     def test_no_job_begins(self) -> None:
         with self.assertRaisesRegex(NamesNothing, "'return low yield' begins no job"):
             notes_of(self.seen(HOG + LOW, 81), [measure_of_words('from="return low yield" to="return low gettime"')])
