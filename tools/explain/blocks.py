@@ -8,6 +8,8 @@ from reader import FaultKind, is_barred, place_fault
 
 from .found import Aside, Found, Word
 
+_OUTSIDE = (Role.DECLARATION, Role.QUANTUM)
+
 
 @dataclass
 class Open:
@@ -30,14 +32,18 @@ class Forgotten:
 
 @dataclass
 class Blocks:
-    """The blocks that are open at a line, the body first, and what was seen on the way."""
+    """The blocks that are open at a line, the body first, and what was seen on the way. Behind a declaration in a body nothing is open
+    until a step says that the body goes on."""
 
     open: list[Open] = field(default_factory=list)
     forgotten: list[Forgotten] = field(default_factory=list)
     astray: bool = False
+    left: list[Open] = field(default_factory=list)
 
     def look(self, number: int, form: Form, indent: int) -> None:
         """Looks whether the indentation of a line says that the innermost block was to be closed above it."""
+        if self.left and form.role not in (Role.BODY, *_OUTSIDE):
+            self.open, self.left = self.left, []
         if not self.open:
             return
         inner = self.open[-1]
@@ -47,7 +53,7 @@ class Blocks:
                 self._forget(inner, number, f"`{form.head}` stands under the `{outer.head}` of line {outer.line}")
         elif inner.is_indented is None:
             inner.is_indented = indent > inner.indent
-        elif inner.is_indented and indent <= inner.indent and form.role not in (Role.BODY, Role.DECLARATION, Role.QUANTUM):
+        elif inner.is_indented and indent <= inner.indent and form.role not in (Role.BODY, *_OUTSIDE):
             self._forget(inner, number, f"this line is indented as the `{inner.head}` of line {inner.line} is, and not as what stands in it")
 
     def _forget(self, block: Open, line: int, why: str) -> None:
@@ -61,9 +67,11 @@ class Blocks:
             return None
         if kind is FaultKind.StrayClose:
             return self._stray(number, word)
-        if form.role in (Role.QUANTUM, Role.DECLARATION, Role.BODY):
-            return Found(1, number, kind, word, f"`{word.text}` is a declaration, and {self._still_open()}",
-                         *self._missing(number, f"write `{self._closer()}` before this line"))
+        if form.role in (Role.BODY, *_OUTSIDE):
+            usual = f"write `{self._closer()}` before this line"
+            if form.role in _OUTSIDE:
+                usual = f"move it above line {self.open[0].line}; or, where the body was to be over, {usual}"
+            return Found(1, number, kind, word, f"`{word.text}` is a declaration, and {self._still_open()}", *self._missing(number, usual))
         if not self.open:
             return Found(1, number, kind, word, f"`{word.text}` is a step, and no body is open here",
                          "move it into the body of a thread; or an `end` above is one too many")
@@ -109,10 +117,10 @@ class Blocks:
 
     def go_on(self, number: int, form: Form, indent: int) -> None:
         """Opens and closes what a line does, so that what follows can be judged by itself."""
-        if form.role in (Role.BODY, Role.DECLARATION, Role.QUANTUM) and self.open:
-            self.open.clear()  # the declaration was meant to stand outside
+        if form.role in (Role.BODY, *_OUTSIDE) and self.open:
+            self.open, self.left = [], self.open  # the declaration was meant to stand outside
         if form.role is Role.BODY:
-            self.astray = False
+            self.astray, self.left = False, []
             self.open.append(Open(form.head, number, indent))
         elif form.role is Role.BLOCK and self.open:
             self.open.append(Open(form.head, number, indent))

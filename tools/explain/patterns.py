@@ -29,7 +29,10 @@ MEANT = {
     "sigwait": "sigwaitinfo", "pthread_cleanup_push": "push", "pthread_cleanup_pop": "pop", "compute": "run", "work": "run",
     "exec": "run", "execute": "run", "busy": "run", "for": "loop", "repeat": "loop", "while": "forever", "do": "forever",
     "slice": "quantum", "timeslice": "quantum", "done": "end", "}": "end", "fi": "end", "let": "set", "recv": "mq_receive",
-    "receive": "mq_receive", "send": "mq_send"}
+    "receive": "mq_receive", "send": "mq_send", "sleep_for": "nanosleep", "sleep_until": "clock_nanosleep",
+    "delay_until": "clock_nanosleep", "sem_take": "sem_wait", "sem_give": "sem_post", "sem_signal": "sem_post", "sem_open": "sem",
+    "pthread_mutex_init": "mutex", "pthread_cond_init": "cond", "thread_create": "create", "thread_exit": "exit",
+    "increment": "add", "increase": "add", "setitimer": "timer_settime"}
 
 
 def pattern_of(form: Form) -> str:

@@ -24,6 +24,9 @@ BODY = "thread a fifo 5 at 0\n{}\nend\n"
 CASES = [
     (BODY.format("sleep 3"), 2, 1, "UnknownWord", "`nanosleep` is what does it here"),
     (BODY.format("pthread_mutex_lock m"), 2, 1, "UnknownWord", "`lock`"),
+    ("sem s 0\n" + BODY.format("sem_give s"), 3, 1, "UnknownWord", "`sem_post` is what does it here"),
+    (BODY.format("sleep_until 5"), 2, 1, "UnknownWord", "`clock_nanosleep` is what does it here"),
+    (BODY.format("increase 5"), 2, 1, "UnknownWord", "`add` is what does it here"),
     (BODY.format("  rum 3"), 2, 3, "UnknownWord", "did you mean `run`?"),
     (BODY.format("else"), 2, 1, "UnknownWord", "there is no `else`"),
     (BODY.format("if ENOENT\nend"), 2, 4, "UnknownWord", "`EAGAIN`"),
@@ -99,6 +102,16 @@ class Faults(unittest.TestCase):
         told = shown(script, faults_of(script))
         self.assertIn("Unclosed", told)
         self.assertIn("write `end` before line 4", told)
+
+    def test_a_declaration_in_a_body(self) -> None:
+        script = b"thread a fifo 5 at 0\n    loop 2\n        mutex m none\n        lock m\n    end\nend\nthread b fifo 5 at 0\nend\n"
+        told = shown(script, faults_of(script))
+        self.assertIn("move it above line 1; or, where the body was to be over, write `end` before this line", told)
+        self.assertEqual([(fault.line, fault.kind.name) for fault in faults_of(script)], [(3, "NotHere")], told)
+
+    def test_a_declaration_behind_a_body_without_its_end(self) -> None:
+        script = b"thread a fifo 5 at 0\n    run 1\nmutex m none\nthread b fifo 5 at 0\nend\n"
+        self.assertEqual([(fault.line, fault.kind.name) for fault in faults_of(script)], [(3, "NotHere")])
 
     def test_all_faults_at_once(self) -> None:
         script = text_of(BODY.format("rum 1\nrun x\nlock m") + "thread a fifo 300 at 0\nend\n")
