@@ -65,6 +65,17 @@ class Words(unittest.TestCase):
         self.assertEqual(self.checkout.run("gen", "7").out, "release: gen 7\n")
         self.assertEqual(self.checkout.run("soak", "7", "9").status, 5)
 
+    def test_numbers_at_their_limits(self) -> None:
+        self.checkout.put_release()
+        zeros = "0" * 20
+        for words in (f"gen {zeros}7", f"run {zeros}1000000000000000000", "run 999999999999999999", f"rta {zeros}100000000", "rta 99999999"):
+            self.assertEqual(self.checkout.run(*words.split()).out, f"release: {words}\n", words)
+        for words in ("gen 1000000000000000001", "gen 9999999999999999999", "rta 100000000000", "soak 1000000000000000001 5",
+                      "soak 7 1000000000000000001", "soak 7 x"):
+            ended = self.checkout.run(*words.split())
+            self.assertEqual((ended.status, ended.out), (1, ""), words)
+            self.assertIn(f"'{words.split()[-2 if words.endswith(' 5') else -1]}' is not a number", ended.err, words)
+
     def test_files(self) -> None:
         self.checkout.put_release()
         self.checkout.write("t.trace", "trace\n")
@@ -79,6 +90,31 @@ class Words(unittest.TestCase):
             ended = self.checkout.run(*words.split())
             self.assertEqual((ended.status, ended.out), (4, ""), words)
             self.assertIn(part, ended.err)
+
+    def test_a_script_without_its_last_line_end_is_divided_from_its_trace(self) -> None:
+        self.checkout.put_release()
+        self.checkout.write("t.trace", "trace\n")
+        self.checkout.write("open.task", SCRIPT.rstrip("\n"))
+        self.assertEqual(self.checkout.run("check", "7", "open.task", "t.trace").out, f"release: check 7\n{SCRIPT}%%\ntrace\n")
+
+    def test_each_status_is_explained(self) -> None:
+        self.checkout.put_built()
+        for status, part in ((3, "1048576 of a script, 67108864"), (4, "the text could not be read"), (6, "not enough memory"),
+                             (7, "the first line that differs"), (8, "no line %%"), (9, "breaks a rule"), (71, "the status 71")):
+            self.checkout.write("crates/pse52/out/pse52", f"#!/bin/sh\nexit {status}\n")
+            subprocess.run(["sh", str(self.checkout.top / "tools/wrapper/record.sh"), self.checkout.sum("sources")], check=True)
+            ended = self.checkout.run("run", "7", "s.task", "--explain")
+            self.assertEqual((ended.status, ended.out, ended.err.count("\n")), (status, "", 1))
+            self.assertIn(part, ended.err)
+
+    def test_a_line_of_another_text_that_is_refused_is_shown(self) -> None:
+        self.checkout.put_built()
+        self.checkout.write("crates/pse52/out/pse52", "#!/bin/sh\nprintf 'refused 2 6 PeriodRange\\n'\nexit 2\n")
+        subprocess.run(["sh", str(self.checkout.top / "tools/wrapper/record.sh"), self.checkout.sum("sources")], check=True)
+        self.checkout.write("t.rta", "first\nsecond\nthird\n")
+        ended = self.checkout.run("rta", "7", "t.rta", "--explain")
+        self.assertEqual((ended.status, ended.out), (2, "refused 2 6 PeriodRange\n"))
+        self.assertEqual(ended.err, "pse52: line 2 is refused, PeriodRange: 'second' (docs/RTA.md, faults)\n")
 
     def test_a_line_that_differs_is_shown(self) -> None:
         self.checkout.put_built()
