@@ -43,6 +43,13 @@ def input_of(log: str) -> bytes:
     return f"{head_of(names)}%%\n{converted(kept(read_log(log), names), names).text()}".encode()
 
 
+def switch(at: str, prev: str, state: str, to: str) -> str:
+    """A line of a log; a thread is told as its command name, pid and priority."""
+    (comm, pid, prio), (next_comm, next_pid, next_prio) = prev.split(), to.split()
+    return (f"  x-1 [000] d..2. {at}: sched_switch: prev_comm={comm} prev_pid={pid} prev_prio={prio} prev_state={state}"
+            f" ==> next_comm={next_comm} next_pid={next_pid} next_prio={next_prio}\n")
+
+
 def doubts_of(log: str, names: str) -> list[str]:
     return doubts(log, read_log(log), read_map(names))
 
@@ -67,6 +74,16 @@ class Ftrace(unittest.TestCase):
 
     def test_totals_that_the_kernel_miscounted_are_found(self) -> None:
         self.assertEqual(audit(input_of(self.log.replace("totals server 6", "totals server 5"))), (9, b"breach 17 6\n"))
+
+    def test_a_start_stands_at_the_wake_and_an_exit_at_the_end(self) -> None:
+        idle, first, second, urgent = "swapper/0 0 120", "first 51 120", "second 52 120", "urgent_task 812 90"
+        log = "".join((switch("100.000000", idle, "R", first), "  x-1 [000] d..2. 100.002000: sched_wakeup: comm=urgent_task pid=812 prio=90 cpu=000\n",
+                       switch("100.003000", first, "R+", second), switch("100.005000", second, "S", urgent),
+                       "  x-1 [000] d..2. 100.008000: sched_process_exit: comm=urgent_task pid=812 prio=90\n",
+                       switch("100.009000", urgent, "X", idle)))
+        names = read_map("tick 1000\nthread urgent urgent_task\n")
+        self.assertEqual(converted(kept(read_log(log), names), names).text(),
+                         "0 dispatch other 1\n2 start urgent\n5 dispatch urgent 9\n8 exit urgent\n9 idle\n9 end\nthread urgent ticks 4\n")
 
     def test_an_origin_leaves_out_what_is_before_it(self) -> None:
         names = read_map("tick 1000\norigin 100.013\nthread server 811\n")
