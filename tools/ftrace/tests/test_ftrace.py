@@ -85,6 +85,17 @@ class Ftrace(unittest.TestCase):
         self.assertEqual(converted(kept(read_log(log), names), names).text(),
                          "0 dispatch other 1\n2 start urgent\n5 dispatch urgent 9\n8 exit urgent\n9 idle\n9 end\nthread urgent ticks 4\n")
 
+    def test_closing_lines(self) -> None:
+        idle, server = "swapper/0 0 120", "server 811 91"
+        totals = "  x-1 [000] d..2. 100.001000: tracing_mark_write: pse52 totals server {}\n"
+        last = "  x-1 [000] d..2. 100.006000: tracing_mark_write: the last line\n"
+        runs, ends = switch("100.000000", idle, "R", server), switch("100.004000", server, "X", idle)
+        for log, told in ((runs + totals.format("6 3") + last, "6 end\nthread server ticks 6\n"),
+                          (runs + totals.format("6 3 4 1") + last, "6 end\nthread server ticks 6 high 6 init 3 refilled 4 capacity 1\n"),
+                          (runs + totals.format("4 3 2 1") + ends + last, "4 exit server\n4 idle\n6 end\nthread server ticks 4\n")):
+            names = read_map("tick 1000\nserver server 811 10 3 4\n")
+            self.assertEqual(converted(kept(read_log(log), names), names).text(), f"0 start server\n0 dispatch server 8\n{told}")
+
     def test_an_origin_leaves_out_what_is_before_it(self) -> None:
         names = read_map("tick 1000\norigin 100.013\nthread server 811\n")
         lines = converted(kept(read_log(self.log), names), names).text().splitlines()
