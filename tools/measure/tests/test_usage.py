@@ -60,6 +60,7 @@ class WaitsByHand(unittest.TestCase):
         self.assertEqual([(wait.call, wait.on, wait.times, wait.ticks) for wait in waits_of(seen, "a")], [("wait", "c", 1, 3), ("wait", "m", 1, 4)])
         self.assertEqual(figures(seen, kind="blocked", thread="a", call="wait"), ["2", "7", "4"])
         self.assertEqual(figures(seen, kind="blocked", thread="a", on="m"), ["1", "4", "4"])
+        self.assertEqual(figures(seen, kind="blocked", thread="a", call="lock"), ["0", "0", ""])
         self.assertEqual(seen.calls("a", "wait"), [2])
 
     def test_sleeps_of_a_trace_alone(self) -> None:
@@ -74,6 +75,7 @@ class ThreadsByHand(unittest.TestCase):
         text = b"0 start a\n0 start b\n0 dispatch a 5\n3 dispatch b 9\n5 dispatch a 5\n9 idle\n12 end\n"
         self.assertEqual([ticks_of(read(text), name) for name in "ab"], [7, 2])
         self.assertEqual(figures(read(text), kind="utilisation", thread="a"), ["0.583"])
+        self.assertEqual(figures(read(b"0 end\nthread a ticks 0\n"), kind="utilisation", thread="a"), [""])
 
     def test_preemptions_and_turns(self) -> None:
         """c runs from 1 to 4, and a goes on and yields at 6; b has its slice of 4. A yield begins no new one, so a has one tick left of its first."""
@@ -119,6 +121,7 @@ class ServersByHand(unittest.TestCase):
         text = b"0 start a\n0 dispatch a 9\n2 start s\n2 activate s 3\n2 dispatch s 10\n4 exit s\n4 dispatch a 9\n9 end\nthread a ticks 7\nthread s ticks 2\n" \
                b"thread t ticks 0 high 0 init 4 refilled 0 capacity 4\n"
         self.assertEqual([is_server(read(text), name) for name in "ast"], [False, True, True])
+        self.assertEqual([figures(read(text), kind="high_share", thread=name) for name in "st"], [["1.000"], [""]])
 
 
 if __name__ == "__main__":

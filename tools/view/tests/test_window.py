@@ -1,0 +1,84 @@
+"""Parts of a run, with what stands in them worked out by hand."""
+from __future__ import annotations
+
+import unittest
+from dataclasses import astuple
+
+from view.lines import read_trace
+from view.seen import timeline_of
+from view.timeline import MarkKind, Timeline
+from view.window import NoWindow, window
+
+# s has a budget of 3 and a period of 20, and runs for 30 ticks but for two in which u has the processor; v has the rest.
+SERVER = """\
+0 start s
+0 start v
+0 activate s 3
+0 dispatch s 8
+3 exhaust s
+3 plan s 3 20
+10 start u
+10 dispatch u 9
+12 exit u
+12 dispatch s 2
+20 refill s 3 3
+20 activate s 3
+20 dispatch s 8
+23 exhaust s
+23 plan s 3 40
+33 exit s
+33 dispatch v 1
+35 exit v
+35 idle
+40 end
+thread s ticks 31
+thread v ticks 2
+thread u ticks 2
+"""
+
+
+def server() -> Timeline:
+    return timeline_of(read_trace(SERVER.encode().splitlines(keepends=True)))
+
+
+class Window(unittest.TestCase):
+    def part(self, start: int | None, end: int | None) -> Timeline:
+        return window(server(), start, end, None)
+
+    def test_the_capacity_at_both_edges(self) -> None:
+        """It falls from 3 to 0 up to 3, stays there up to 20, and falls again."""
+        self.assertEqual([astuple(piece) for piece in self.part(1, 22).threads[0].capacity], [(1, 3, 2, True), (3, 20, 0, False), (20, 22, 3, True)])
+        self.assertEqual([piece.last for piece in self.part(1, 22).threads[0].capacity], [0, 0, 1])
+        self.assertEqual([astuple(piece) for piece in self.part(3, 20).threads[0].capacity], [(3, 20, 0, False)])
+        self.assertEqual([astuple(piece) for piece in self.part(2, 3).threads[0].capacity], [(2, 3, 1, True)])
+
+    def test_runs_and_idle_stretches(self) -> None:
+        part = self.part(5, 37)
+        self.assertEqual([thread.runs for thread in part.threads], [[(5, 10), (12, 33)], [(33, 35)], [(10, 12)]])
+        self.assertEqual(part.idle, [(35, 37)])
+        self.assertEqual([thread.ticks for thread in part.threads], [26, 2, 2])
+        self.assertEqual((self.part(10, 12).threads[0].runs, self.part(12, 33).threads[1].runs, self.part(12, 33).threads[2].runs), ([], [], []))
+        self.assertEqual((self.part(0, 35).idle, self.part(36, 37).idle), ([], [(36, 37)]))
+
+    def test_plans_that_reach_into_it(self) -> None:
+        """One was made at 3 and carried out at 20, and one at 23 is never."""
+        for start, end, wanted in ((0, 2, []), (0, 3, [3]), (5, 8, [3]), (20, 22, [3]), (21, 22, []), (21, 23, [23]), (30, 40, [23]), (20, 23, [3, 23])):
+            self.assertEqual([plan.time for plan in self.part(start, end).threads[0].plans], wanted, (start, end))
+
+    def test_marks_and_ends_at_the_edges(self) -> None:
+        def marks(start: int, end: int, kind: MarkKind) -> list[int]:
+            return [mark.time for mark in self.part(start, end).threads[0].marks if mark.kind is kind]
+        self.assertEqual((marks(3, 23, MarkKind.EXHAUST), marks(4, 22, MarkKind.EXHAUST), marks(3, 20, MarkKind.REFILL)), ([3, 23], [], [20]))
+        for start, end, ended, over in ((0, 32, None, False), (0, 33, 33, False), (33, 40, 33, False), (34, 40, None, True)):
+            thread = self.part(start, end).threads[0]
+            self.assertEqual((thread.ended, thread.over), (ended, over), (start, end))
+
+    def test_where_nothing_stands(self) -> None:
+        for start, end in ((40, None), (41, None), (7, 7), (8, 7)):
+            with self.assertRaises(NoWindow, msg=(start, end)):
+                self.part(start, end)
+        self.assertEqual((self.part(39, 99).start, self.part(39, 99).end), (39, 40))
+
+
+if __name__ == "__main__":
+    unittest.main()
