@@ -56,6 +56,21 @@ class TasksByHand(unittest.TestCase):
             task, = tasks_of(once.format(body).encode())[1]
             self.assertEqual((task.cost, task.why, task.period, task.jobs, task.phase), (cost, why, None, 1, 3), body)
 
+    def test_costs_of_blocks(self) -> None:
+        """A loop has a jump between two passes; a block with a cleanup handler a push and a pop, and, where the pop runs it, the handler and its end."""
+        declared = "cleanup h\nrun 10\nend\n"
+        for body, cost in (("loop 3\nrun 2\nend", 8), ("loop 2\nrun 1\nloop 3\nrun 2\nend\nend", 19), ("loop 1\nrun 5\nend", 5),
+                           ("push h\nrun 4\npop 1", 17), ("push h\nrun 4\npop 0", 6), ("if 0\nrun 4\ngettime\nend", 5), ("yield", 1)):
+            task, = tasks_of(f"{declared}thread a fifo 5 at 0\n{body}\nend\n".encode())[1]
+            self.assertEqual((task.why, task.cost), (None, cost + 1), body)
+
+    def test_which_mutexes_a_thread_locks(self) -> None:
+        """Also in blocks; one that it unlocks alone is none of them, and a cleanup handler locks nothing."""
+        declared = "mutex k none\nmutex m none\nmutex n none\ncleanup h\nunlock n\nend\n"
+        for body, locks in (("lock m\nunlock m", {1}), ("unlock m", set()), ("if 0\ntrylock k\nend", {0}), ("push h\nlock m\npop 1", {1}), ("loop 2\nlock k\nunlock k\nend", {0})):
+            task, = tasks_of(f"{declared}thread a fifo 5 at 0\n{body}\nend\n".encode())[1]
+            self.assertEqual(task.locks, locks, body)
+
     def test_threads_that_another_one_creates(self) -> None:
         """b is created by a, and c by nobody, so that c is not there at all."""
         text = "thread c fifo 6 dormant\nrun 9\nend\nthread b fifo 7 dormant\nrun 1\nend\nthread a fifo 5 at 0\ncreate b\nend\n"
