@@ -10,7 +10,10 @@ def notes_of(seen: Seen, measures: list[Measure]) -> list[str]:
     """What a reader of the jobs must know. Raises NamesNothing where a measure names what never comes."""
     found = []
     for measure in measures:
-        notes = measure.warning, _none_done(seen, measure), _lost(seen, measure), _ended(seen, measure), _not_told(seen, measure)
+        try:
+            notes = measure.warning, _none_done(seen, measure), _lost(seen, measure), _ended(seen, measure), _not_told(seen, measure)
+        except NamesNothing as wrong:
+            raise NamesNothing(f"measure '{measure.name}': {wrong}") from None
         found += filter(None, notes)
     return found
 
@@ -33,11 +36,11 @@ def _none_done(seen: Seen, measure: Measure) -> str | None:
     jobs = jobs_of(seen, measure.words)
     count, to = len(jobs.jobs), ends_by(measure)
     if not count:
-        raise NamesNothing(f"measure '{measure.name}': '{measure.words.get('from', 'a release')}' begins no job in this trace")
+        raise NamesNothing(f"'{measure.words.get('from', 'a release')}' begins no job in this trace")
     if len(jobs.open) < count:
         return None
     if not is_starved(seen, measure):
-        raise NamesNothing(f"measure '{measure.name}': of {count} jobs none is done, for '{to}' does not come behind the beginning of one")
+        raise NamesNothing(f"of {count} jobs none is done, for '{to}' does not come behind the beginning of one")
     return (f"measure '{measure.name}': of {count} jobs none is done, so there is no response time, and only late and open ones are counted; "
             f"the thread is still in the first, or '{to}' is not what ends one")
 

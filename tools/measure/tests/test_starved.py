@@ -53,7 +53,7 @@ class Starved(unittest.TestCase):
                 ("thread one fifo 9 at 0\nrun 3\nend\n", "thread=one period=10", 50),
                 (HOG + LOW.replace("at 0", "at 90"), "thread=low period=20", 81),
                 (HOG + LOW, 'from="start low" to=idle', 81)):
-            with self.assertRaisesRegex(NamesNothing, "jobs none is done, for", msg=words):
+            with self.assertRaisesRegex(NamesNothing, r"^measure '\w+': of \d+ jobs none is done, for", msg=words):
                 notes_of(self.seen(script, horizon), [measure_of_words(words)])
 
     def test_the_second_sleep_tells_that_the_first_job_is_done(self) -> None:
@@ -74,8 +74,14 @@ class Starved(unittest.TestCase):
         self.assertEqual(notes_of(seen, [measure_of_words("thread=low period=20 jobs=2")]), [])
 
     def test_no_job_begins(self) -> None:
-        with self.assertRaisesRegex(NamesNothing, "'return low yield' begins no job"):
+        with self.assertRaisesRegex(NamesNothing, "^measure 'jobs': 'return low yield' begins no job"):
             notes_of(self.seen(HOG + LOW, 81), [measure_of_words('from="return low yield" to="return low gettime"')])
+
+    def test_the_measure_that_is_wrong_is_named(self) -> None:
+        """Of several only one is wrong: hog sleeps at 9, 20 and so on, and not once in 5 ticks."""
+        measures = [measure_of_words(f"thread=hog period={period} name={name}") for period, name in ((10, "fine"), (60, "wrong"))]
+        with self.assertRaisesRegex(NamesNothing, "^measure 'wrong': 'call clock_nanosleep' at 20 ends a job before its release at 60"):
+            notes_of(self.seen(HOG + LOW, 81), measures)
 
     def test_jobs_that_are_done_need_no_word(self) -> None:
         self.assertEqual(notes_of(self.seen(HOG + LOW, 81), [measure_of_words("thread=hog period=10")]), [])

@@ -256,6 +256,8 @@ class Pictures(unittest.TestCase):
         for name in FORMATS:
             self.assertTrue(drawer(name)(seen), name)
         self.assertIn("the deadline of job 0: job 0 is released at 0; done at 34, 34 ticks", drawer("svg")(seen))
+        # Up to 80 lo has 32 ticks, and three jobs need 39.
+        self.assertIn("the deadline of job 2: job 2 is released at 40; not done in this run", drawer("svg")(seen))
 
     def test_a_late_job_where_nothing_else_happens(self) -> None:
         """low waits for hog up to 31, and its jobs of 0, 10 and 20 are late by then; it ends at 43, before the deadline of the last at 50."""
@@ -284,6 +286,9 @@ class Pictures(unittest.TestCase):
         seen = seen_of(detail_of(b"thread a fifo 5 at 2\nrun 3\nend\n", 20))
         self.assertEqual(mark_jobs(seen, [measure_of_words('from="start a" to=idle')]), [])
         self.assertEqual([mark for thread in seen.threads for mark in thread.marks if mark.sentence], [])
+        mark_jobs(seen, [measure_of_words('from="start a" to="exit a" deadline=3')])
+        self.assertEqual([(mark.time, mark.kind.value) for mark in seen.threads[0].marks if mark.sentence], [(2, "release"), (5, "late")])
+        seen = seen_of(detail_of(b"thread a fifo 5 at 2\nrun 3\nend\n", 20))
         mark_jobs(seen, [measure_of_words('from="start a" to=idle thread=a')])
         self.assertEqual([mark.sentence for mark in seen.threads[0].marks if mark.sentence], ["job 0 is released at 2; done at 6, 4 ticks"])
 
