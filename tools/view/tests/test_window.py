@@ -9,6 +9,8 @@ from view.seen import timeline_of
 from view.timeline import MarkKind, Timeline
 from view.window import NoWindow, window
 
+from .details import detail_of
+
 # s has a budget of 3 and a period of 20, and runs for 30 ticks but for two in which u has the processor; v has the rest.
 SERVER = """\
 0 start s
@@ -35,6 +37,12 @@ thread s ticks 31
 thread v ticks 2
 thread u ticks 2
 """
+
+
+# b owns m from 1 to 9, and a, which waits for it from 5 on, from 9 to 12; the unlock of b wakes it.
+MUTEX = b"mutex m none\nthread a fifo 9 at 4\nlock m\nrun 2\nunlock m\nend\nthread b fifo 5 at 0\nlock m\nrun 6\nunlock m\nrun 5\nend\n"
+
+KILLED = b"0 start a\n0 dispatch a 5\n5 return a kill 0 0\n5 killed rt1\n5 end\nthread a ticks 5\n"
 
 
 def server() -> Timeline:
@@ -73,10 +81,36 @@ class Window(unittest.TestCase):
             thread = self.part(start, end).threads[0]
             self.assertEqual((thread.ended, thread.over), (ended, over), (start, end))
 
+    def test_owners_and_wakes(self) -> None:
+        whole = timeline_of(read_trace(detail_of(MUTEX, 25).splitlines(keepends=True)))
+        self.assertEqual([mutex.bars for mutex in whole.mutexes], [[(1, 5, "b", 0), (5, 9, "b", 1), (9, 12, "a", 0)]])
+        for start, end, bars in ((6, 9, [(6, 9, "b", 1)]), (9, 20, [(9, 12, "a", 0)]), (7, 10, [(7, 9, "b", 1), (9, 10, "a", 0)]), (12, 20, []), (0, 1, []),
+                                 (3, 8, [(3, 5, "b", 0), (5, 8, "b", 1)])):
+            self.assertEqual([mutex.bars for mutex in window(whole, start, end, None).mutexes], [bars], (start, end))
+        for start, names, owners in ((6, ["a"], ["b", "a"]), (9, ["b"], None), (9, ["a"], ["a"]), (9, ["b", "a"], ["a"])):
+            found = [[owner for _, _, owner, _ in mutex.bars] for mutex in window(whole, start, 25, names).mutexes]
+            self.assertEqual(found, [] if owners is None else [owners], (start, names))
+        for start, end, names, wakes in ((0, 9, None, [9]), (0, 8, None, []), (9, 12, None, [9]), (10, 12, None, []), (0, 25, ["a"], []), (0, 25, ["b"], [])):
+            self.assertEqual([wake.time for wake in window(whole, start, end, names).wakes], wakes, (start, end, names))
+
+    def test_colours_are_those_of_the_whole_run(self) -> None:
+        self.assertEqual((self.part(4, 8).scale, self.part(33, 35).scale), ([9, 8, 2, 1], [9, 8, 2, 1]))
+        self.assertEqual(window(self.part(4, 20), 5, 6, None).scale, [9, 8, 2, 1])
+
+    def test_what_killed_it(self) -> None:
+        whole = timeline_of(read_trace(KILLED.splitlines(keepends=True)))
+        self.assertEqual([window(whole, 0, end, None).killed is not None for end in (4, 5, 6)], [False, True, True])
+
+    def test_no_stretch_is_empty(self) -> None:
+        for start, end in ((10, 12), (12, 20), (20, 23), (33, 35), (3, 10)):
+            self.assertEqual([span for thread in self.part(start, end).threads for span in thread.spans if span.start >= span.end], [], (start, end))
+
     def test_where_nothing_stands(self) -> None:
         for start, end in ((40, None), (41, None), (7, 7), (8, 7)):
             with self.assertRaises(NoWindow, msg=(start, end)):
                 self.part(start, end)
+        empty = timeline_of(read_trace([b"0 end\n"]))
+        self.assertEqual([(part.start, part.end) for part in (window(empty, None, None, None), window(empty, 0, 5, None))], [(0, 0), (0, 0)])
         self.assertEqual((self.part(39, 99).start, self.part(39, 99).end), (39, 40))
 
 
