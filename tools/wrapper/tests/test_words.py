@@ -261,10 +261,10 @@ class Explanations(unittest.TestCase):
         kept = self.checkout.top / "kept"
         kept.mkdir()
         for number in (signal.SIGINT, signal.SIGTERM, signal.SIGHUP):
-            # A shell without a terminal has SIGINT ignored, and what is ignored cannot be trapped.
+            # A shell without a terminal has SIGINT ignored, and nohup SIGHUP; what is ignored cannot be trapped.
             process = subprocess.Popen([self.checkout.top / "bin/pse52", "--explain", "run", "7"], stdin=subprocess.PIPE, stdout=subprocess.PIPE,
                                        stderr=subprocess.DEVNULL, env=dict(os.environ, TMPDIR=str(kept)), start_new_session=True,
-                                       preexec_fn=lambda: signal.signal(signal.SIGINT, signal.SIG_DFL))
+                                       preexec_fn=lambda: signal.signal(number, signal.SIG_DFL))
             process.stdin.write(SCRIPT.encode())
             process.stdin.close()
             self.assertEqual(process.stdout.readline(), b"ready\n")
