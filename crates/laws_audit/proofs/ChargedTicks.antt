@@ -9,7 +9,7 @@ use Rattle.rules_machine.specs.Lists.{is}
 use Rattle.rules_machine.specs.State.{Status, blocked, dormant, ended, runnable}
 use Rattle.rules_machine.specs.Threads.{is_dormant, is_live, is_runnable}
 use Rattle.rules_machine.specs.Servers.{charged, has_high}
-use Rattle.rules_machine.specs.GoodState.{is_sporadic}
+use Rattle.rules_machine.specs.GoodState.{has_server_policy}
 use Rattle.laws_machine.proofs.Budgets.Units.{NotDue}
 use Rattle.laws_machine.proofs.Servers.OfThreads.{only}
 use Rattle.tool_audit.specs.declared.server.Limits.{Limits}
@@ -23,7 +23,7 @@ use Rattle.laws_audit.proofs.AccountFits.{Fits, Owing, contra, is_ended, runs_li
 -- ---- the charge
 
 module _ (lim : Limits) where
-  is_rule : (rule : Policy) → (live : Bool) → live ≡ true → (p : Policy) → is_sporadic p ≡ true → rule ≡ p → (live && is_sporadic rule) ≡ true
+  is_rule : (rule : Policy) → (live : Bool) → live ≡ true → (p : Policy) → has_server_policy p ≡ true → rule ≡ p → (live && has_server_policy rule) ≡ true
   is_rule rule live e p k same = rw (e, same, k) refl
 
   -- a thread without a server is dormant, or has ended
@@ -34,9 +34,9 @@ module _ (lim : Limits) where
   not_live ended e k = refl
 
   module _ (tolled : Bool) (now : ℕ) (status : Status) (rule : Policy) (server : Option ServerState) (ran : ℕ) (b : Account) (f : Fits lim false tolled (Booked lim) now status rule server ran b)
-      (having : is_some server ≡ (is_live status && is_sporadic rule)) (none : (x : ServerState) → server ≡ Some x → NotDue now x) where
-    sporadic : is_sporadic rule ≡ true
-    sporadic = ap is_sporadic f.limits.1
+      (having : is_some server ≡ (is_live status && has_server_policy rule)) (none : (x : ServerState) → server ≡ Some x → NotDue now x) where
+    sporadic : has_server_policy rule ≡ true
+    sporadic = ap has_server_policy f.limits.1
 
     -- no refill is missing
     missing : (not b.exited && list_any (λ (p : Planned). nat_le p.from b.now) b.ahead) ≡ false
@@ -49,7 +49,7 @@ module _ (lim : Limits) where
             second c k = grind arith
 
         dead : is_some server ≡ false → is_live status ≡ false
-        dead e = first (is_live status) (is_sporadic rule) sporadic (sym having ∙ e)
+        dead e = first (is_live status) (has_server_policy rule) sporadic (sym having ∙ e)
           where
             first : (c d : Bool) → d ≡ true → (c && d) ≡ false → c ≡ false
             first c d p k = grind arith

@@ -20,7 +20,7 @@ use Rattle.rules_machine.specs.Waking.{ending_with, on_top, put_to_wait, started
 use Rattle.rules_machine.specs.Lives.{with_joiner, without_life, without_top}
 use Rattle.rules_machine.specs.Cancellation.{without_cleanup}
 use Rattle.rules_machine.specs.DueItems.{has_come}
-use Rattle.rules_machine.specs.GoodState.{is_sporadic}
+use Rattle.rules_machine.specs.GoodState.{has_server_policy}
 use Rattle.rules_machine.proofs.Reading.{changed-length, thread-other, thread-same}
 use Rattle.rules_moves.specs.Moves.{Core, MayAwake, Move, alters, at_some_time, begins, blocks_for, blocks_plainly, core_of, does, drops, ends_with, enters_frame, leaves_frame, lives_no_more, prices, pushed, pushes, recasts, refills_one, rejoins, renews_with, tells_of, wakes_with}
 use Rattle.rules_moves.proofs.Cores.{timeless}
@@ -223,7 +223,7 @@ module _ {P : Type 0} (bodies : Bodies P) (t : ℕ) (lim : Limits) (a : Account)
           no_server (Some x) e k = absurd (grind arith)
 
           has_none : (th : Thread P) → is_dormant (thread_at s.machine t).status ≡ true → is_some (thread_at s.machine t).server ≡ false
-          has_none th d = (all t).having ∙ dormant_dead (thread_at s.machine t).status (is_sporadic (thread_at s.machine t).policy) d
+          has_none th d = (all t).having ∙ dormant_dead (thread_at s.machine t).status (has_server_policy (thread_at s.machine t).policy) d
 
       by_eq : (c : Bool) → (v == t) ≡ c → Recorded (does bodies (begins v mask) s)
       by_eq true k = let it : t ≡ v = grind arith in subst (λ (i : ℕ). Recorded (does bodies (begins i mask) s)) it (mine (subst (λ (i : ℕ). is_dormant (thread_at s.machine i).status ≡ true) (sym it) d))
@@ -335,7 +335,7 @@ module _ {P : Type 0} (bodies : Bodies P) (t : ℕ) (lim : Limits) (a : Account)
       by_size (suc n) k = absurd (contra (((h.each x e).consumed (omega arith)).runs refl).1 low)
 
   has_live : (own' : Bool) (now : ℕ) (th : Thread P) (x : ServerState) → th.server ≡ Some x → ThreadRight own' now th → is_live th.status ≡ true
-  has_live own' now th x e h = left (is_live th.status) (is_sporadic th.policy) (sym h.having ∙ ap is_some e)
+  has_live own' now th x e h = left (is_live th.status) (has_server_policy th.policy) (sym h.having ∙ ap is_some e)
     where
       left : (p q : Bool) → (p && q) ≡ true → p ≡ true
       left p q k = grind arith

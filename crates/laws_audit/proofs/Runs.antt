@@ -21,7 +21,7 @@ use Rattle.rules_machine.specs.Turns.{Turn, turn_of}
 use Rattle.rules_machine.specs.Ticks.{tick}
 use Rattle.rules_machine.specs.Runs.{opening, thread_opened, tick_of, ticks}
 use Rattle.rules_machine.specs.Machine.{bodies_of, events, machine}
-use Rattle.rules_machine.specs.GoodState.{is_sporadic}
+use Rattle.rules_machine.specs.GoodState.{has_server_policy}
 use Rattle.rules_machine.specs.WellFormed.{IsWellFormed}
 use Rattle.rules_moves.specs.UnitRanges.{BodiesFit}
 use Rattle.rules_moves.proofs.Runs.Listed.{AllRun}
@@ -148,7 +148,7 @@ module _ {P : Type 0} (bodies : Bodies P) (known : BodiesFit bodies) (calm : Are
       let th = thread_at m t in
       subst (λ (b : Account). ClosesRight b (thread_at m t)) (sym q.1.is) (record {
         ticks = q.2.ticks;
-        living = by_status th.status (is_sporadic th.policy) (ap is_sporadic q.2.limits.1) q.0.started q.0.exited q.2.started q.2.exited ∙ sym (right.1 t).having;
+        living = by_status th.status (has_server_policy th.policy) (ap has_server_policy q.2.limits.1) q.0.started q.0.exited q.2.started q.2.exited ∙ sym (right.1 t).having;
         budget = λ some. tells th.server refl some;
       })
     where

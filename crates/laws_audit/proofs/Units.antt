@@ -17,7 +17,7 @@ use Rattle.rules_machine.specs.Threads.{can_run, is_blocked, is_dormant, is_live
 use Rattle.rules_machine.specs.Turns.{Turn, changes, moves_if, tells}
 use Rattle.rules_machine.specs.Servers.{activates_server, charged, closes, closes_of, has_high, has_run, is_strict, may_open, opens, opens_for, opens_if, plans, plans_if, plans_server, with_server}
 use Rattle.rules_machine.specs.Dispatch.{dispatch_event, dispatch_of, dispatches, is_same, tells_unless}
-use Rattle.rules_machine.specs.GoodState.{is_sporadic}
+use Rattle.rules_machine.specs.GoodState.{has_server_policy}
 use Rattle.rules_machine.specs.Priorities.{exec}
 use Rattle.rules_machine.specs.Ticks.{TickEnd, prepares, capacity_in, consumed_in, ends_tick, exhausting, nothing, planning, slice_is_used, slicing, tick_charged, tick_end, without_slice}
 use Rattle.rules_machine.specs.Units.{in_unit}
@@ -312,7 +312,7 @@ module _ {P : Type 0} (bodies : Bodies P) (t : ℕ) (lim : Limits) (a : Account)
         let old = q.2 in
         let now = s.machine.now in
         let booked = old.each x e in
-        let live = is_alive th.status (left (is_live th.status) (is_sporadic th.policy) (sym right.having ∙ ap is_some e)) in
+        let live = is_alive th.status (left (is_live th.status) (has_server_policy th.policy) (sym right.having ∙ ap is_some e)) in
         let consumed : Consumed true now th.status x = (right.each x e).consumed some in (
           tolled,
           told_as bodies t lim a true tolled (Booked lim) (FitsOf bodies t lim a false tolled (Booked lim)) (event.Plan t (replenishment x).amount (replenishment x).due) (planned_of lim x) (with_server plan) s (has_server s.machine.threads t x e)
@@ -377,14 +377,14 @@ module _ {P : Type 0} (bodies : Bodies P) (t : ℕ) (lim : Limits) (a : Account)
             let o = q.2.owes e in
             let has = o.2.1 in
             absurd (never o.1 (subst (λ (z : Option ServerState). 1 ≤ consumed_in z) (sym has) o.2.2)
-            (left (is_live (thread_at s.machine t).status) (is_sporadic (thread_at s.machine t).policy) (sym right.having ∙ ap is_some has))
+            (left (is_live (thread_at s.machine t).status) (has_server_policy (thread_at s.machine t).policy) (sym right.having ∙ ap is_some has))
             (ap capacity_in has ∙ o.2.3))
 
     exhausts_mine : (x : ServerState) → (thread_at s.machine t).server ≡ Some x → 1 ≤ x.consumed → x.capacity ≡ 0 → tolled ≡ true → Recorded bodies t lim a true tolled s → Recorded bodies t lim a true tolled (tells (event.Exhaust t) s)
     exhausts_mine x e some none high q =
         let th = thread_at s.machine t in
         let b = q.0 in
-        let live = is_alive th.status (left (is_live th.status) (is_sporadic th.policy) (sym right.having ∙ ap is_some e)) in (
+        let live = is_alive th.status (left (is_live th.status) (has_server_policy th.policy) (sym right.having ∙ ap is_some e)) in (
           b,
           told_stands t lim a s.events s.machine.now s.machine.last s.machine.last (event.Exhaust t) exhausts b refl (mine_says t exhausts) q.2.at
               (exhaustion_kept lim s.machine.now x b q.2.clear (lives_account lim true tolled (Booked lim) s.machine.now th.status th.policy th.server th.ticks b live q.2) (q.2.each x e).agrees none (q.2.fresh refl high)) q.1.has q.1,

@@ -21,7 +21,7 @@ use Rattle.rules_machine.specs.Units.{in_unit}
 use Rattle.rules_machine.specs.Budget.{renews}
 use Rattle.rules_machine.specs.Ticks.{completes_at, ends_tick, prepares, runs, runs_head, tick_charged, tick_end, unless_killed}
 use Rattle.rules_machine.specs.Runs.{Ran, opening, tick_begun, tick_of, tick_prepared, tick_run, ticks}
-use Rattle.rules_machine.specs.GoodState.{HasParameters, is_sporadic}
+use Rattle.rules_machine.specs.GoodState.{HasParameters, has_server_policy}
 use Rattle.rules_machine.specs.WellFormed.{IsWellFormed}
 use Rattle.rules_machine.proofs.Counting.{tick_now}
 use Rattle.rules_machine.proofs.Parts.{finished_in_parts, prepares_unended, tick_in_parts}
@@ -282,7 +282,7 @@ module _ {P : Type 0} (bodies : Bodies P) where
         right = (stands w).0.1 t
 
         awake : (x : ServerState) → (thread_at (ticks bodies w start).machine t).server ≡ Some x → is_dormant (thread_at (ticks bodies w start).machine t).status ≡ false
-        awake x e = by_status (thread_at (ticks bodies w start).machine t).status (live_of (is_live (thread_at (ticks bodies w start).machine t).status) (is_sporadic (thread_at (ticks bodies w start).machine t).policy) (sym right.having ∙ ap is_some e))
+        awake x e = by_status (thread_at (ticks bodies w start).machine t).status (live_of (is_live (thread_at (ticks bodies w start).machine t).status) (has_server_policy (thread_at (ticks bodies w start).machine t).policy) (sym right.having ∙ ap is_some e))
           where
             live_of : (a b : Bool) → (a && b) ≡ true → a ≡ true
             live_of a b e = grind arith

@@ -21,7 +21,7 @@ use Rattle.rules_machine.specs.Dispatch.{head, runner}
 use Rattle.rules_machine.specs.Units.{in_unit}
 use Rattle.rules_machine.specs.Runs.{tick_begun, tick_prepared, tick_run, ticks}
 use Rattle.rules_machine.specs.Throughout.{after_items, turn_after}
-use Rattle.rules_machine.specs.GoodState.{is_sporadic}
+use Rattle.rules_machine.specs.GoodState.{has_server_policy}
 
 -- ---- the account of a server
 
@@ -209,5 +209,5 @@ module _ {P : Type 0} (bodies : Bodies P) (start : Machine P) where
 
   -- the law after n ticks of a run from an opening state, and k items of that instant, of each live sporadic or strict thread
   pub record KeepsBudgets (n k : ℕ) : Type 0 where
-    pub each : (t : ℕ) → lives (after_items bodies start n k) t ≡ true → is_sporadic (thread_at (after_items bodies start n k) t).policy ≡ true →
+    pub each : (t : ℕ) → lives (after_items bodies start n k) t ≡ true → has_server_policy (thread_at (after_items bodies start n k) t).policy ≡ true →
         KeepsServer (thread_at (after_items bodies start n k) t).server (account_after t n k)

@@ -62,11 +62,11 @@ HasParameters (policy.Sporadic params) (Some s) = (s.params ≡ params) × (s.ki
 HasParameters (policy.Strict params) None = Unit {0}
 HasParameters (policy.Strict params) (Some s) = (s.params ≡ params) × (s.kind ≡ kind.Strict)
 
-abbrev pub is_sporadic : Policy → Bool
-is_sporadic (policy.Fifo p) = false
-is_sporadic (policy.Rr p) = false
-is_sporadic (policy.Sporadic params) = true
-is_sporadic (policy.Strict params) = true
+abbrev pub has_server_policy : Policy → Bool
+has_server_policy (policy.Fifo p) = false
+has_server_policy (policy.Rr p) = false
+has_server_policy (policy.Sporadic params) = true
+has_server_policy (policy.Strict params) = true
 
 -- what is consumed was consumed by a thread that still runs at its high priority
 pub record ConsumesInTime {P : Type 0} (m : Machine P) (t : ℕ) (s : ServerState) : Type 0 where
@@ -88,7 +88,7 @@ pub record ServerIsRight {P : Type 0} (m : Machine P) (t : ℕ) (s : ServerState
 
 -- exactly the live sporadic and strict threads have servers
 pub record ServersAreRight {P : Type 0} (m : Machine P) : Type 0 where
-  pub having : (t : ℕ) → is_some (thread_at m t).server ≡ (lives m t && is_sporadic (thread_at m t).policy)
+  pub having : (t : ℕ) → is_some (thread_at m t).server ≡ (lives m t && has_server_policy (thread_at m t).policy)
   pub parameters : (t : ℕ) → HasParameters (thread_at m t).policy (thread_at m t).server
   pub each : (t : ℕ) (s : ServerState) → (thread_at m t).server ≡ Some s → ServerIsRight m t s
 

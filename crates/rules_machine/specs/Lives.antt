@@ -19,7 +19,7 @@ use Rattle.rules_machine.specs.Waking.{blocks_unordered, ending_with, starts, wa
 abbrev pub inherited_mask : {P : Type 0} → Thread P → ℕ
 inherited_mask th = if catches_signal th then every_signal else th.mask
 
--- pthread_create, of a thread that the script declares: EAGAIN where it has started already
+-- pthread_create, of a thread that the script declares: EAGAIN where it has started already (this project's own)
 abbrev pub creates : {P : Type 0} → Bodies P → Caller → ℕ → Turn P → Turn P
 creates bodies by u s =
     if is_dormant (thread_at s.machine u).status then (s ▷ returns by res.Zero 0 ▷ starts bodies u (inherited_mask (thread_at s.machine by.thread)))

@@ -27,7 +27,7 @@ use Rattle.rules_machine.specs.Units.{in_unit}
 use Rattle.rules_machine.specs.Ticks.{completes_at, ends_tick, runs, tick_charged, tick_end, unless_killed, consumed_in, prepares}
 use Rattle.rules_machine.specs.Runs.{Ran, opening, tick_of, ticks, follow, tick_begun, tick_prepared, tick_run}
 use Rattle.rules_machine.specs.Declarations.{threads_of}
-use Rattle.rules_machine.specs.GoodState.{is_sporadic}
+use Rattle.rules_machine.specs.GoodState.{has_server_policy}
 use Rattle.rules_machine.proofs.ItemsEnd.{instant_ends}
 use Rattle.rules_machine.proofs.Parts.{tick_in_parts, finished_in_parts, prepares_unended}
 use Rattle.rules_machine.proofs.Reading.{thread-other, thread-same}
@@ -111,7 +111,7 @@ module _ {P : Type 0} (bodies : Bodies P) (known : BodiesFit bodies) (t : ℕ) w
     Opens acc x = Book bodies t s.events (recorded_tick bodies t (Some u) s.machine acc) x
 
     dead_none : (x : Turn P) (y : ServerState) → Threads bodies (Some u) x → lives x.machine t ≡ false → (thread_at x.machine t).server ≡ Some y → ⊥
-    dead_none x y all dead e = both (lives x.machine t) (is_sporadic (thread_at x.machine t).policy) dead (sym (all t).having ∙ ap is_some e)
+    dead_none x y all dead e = both (lives x.machine t) (has_server_policy (thread_at x.machine t).policy) dead (sym (all t).having ∙ ap is_some e)
       where
         both : (a b : Bool) → a ≡ false → (a && b) ≡ true → ⊥
         both a b p q = grind arith

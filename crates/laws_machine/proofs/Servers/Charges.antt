@@ -9,7 +9,7 @@ use Rattle.rules_server.specs.Server.{ServerState, charge, is_high}
 use Rattle.rules_machine.specs.State.{Status, Waiting, blocked, dormant, ended, runnable}
 use Rattle.rules_machine.specs.Threads.{is_live, is_runnable}
 use Rattle.rules_machine.specs.Servers.{charged, has_high, has_run, is_strict, may_open}
-use Rattle.rules_machine.specs.GoodState.{is_sporadic}
+use Rattle.rules_machine.specs.GoodState.{has_server_policy}
 use Rattle.rules_moves.proofs.Waiters.Best.{Each}
 use Rattle.laws_machine.proofs.Servers.Changed.{charged_in}
 use Rattle.laws_machine.proofs.Servers.OfThreads.{ThreadIn, only, with_other}
@@ -86,7 +86,7 @@ idle_charged now status rule (Some y) h low x e = by_high (is_high y) refl low e
 -- the thread blocks, in its own unit
 pub thread_sleeps : (own : Bool) (now : ℕ) (status : Status) (w : Waiting) (rule : Policy) (server : Option ServerState) → own ≡ true → is_runnable status ≡ true → ThreadIn own now status rule server → ThreadIn own now (blocked w) rule server
 thread_sleeps own now status w rule server mine runs h = record {
-  having = h.having ∙ ap (λ (live : Bool). live && is_sporadic rule) (live status runs);
+  having = h.having ∙ ap (λ (live : Bool). live && has_server_policy rule) (live status runs);
   serves = h.serves;
   parameters = h.parameters;
   each = λ x k. let g = h.each x k in record {

@@ -14,7 +14,7 @@ use Rattle.rules_machine.specs.Turns.{Turn, changes, moves_if, tells}
 use Rattle.rules_machine.specs.Servers.{plans_server, with_server}
 use Rattle.rules_machine.specs.Waking.{put_to_wait}
 use Rattle.rules_machine.specs.Ticks.{TickEnd, capacity_in, consumed_in, ends_tick, exhausting, nothing, planning, slice_is_used, slicing, tick_end, without_slice}
-use Rattle.rules_machine.specs.GoodState.{HasParameters, is_sporadic}
+use Rattle.rules_machine.specs.GoodState.{HasParameters, has_server_policy}
 use Rattle.rules_machine.proofs.Reading.{changed-keeps, thread-other, thread-same}
 use Rattle.rules_moves.specs.Moves.{Runs}
 use Rattle.laws_machine.proofs.Servers.Changed.{high_again, planned_in}
@@ -134,16 +134,16 @@ module _ {P : Type 0} (bodies : Bodies P) (t : ℕ) where
   thread_ends tolled quantum now th idle h = of_server th.server refl
     where
       live_of : (x : ServerState) → th.server ≡ Some x → is_live th.status ≡ true
-      live_of x e = both (is_live th.status) (is_sporadic th.policy) (sym h.having ∙ ap is_some e)
+      live_of x e = both (is_live th.status) (has_server_policy th.policy) (sym h.having ∙ ap is_some e)
         where
           both : (a b : Bool) → (a && b) ≡ true → a ≡ true
           both a b e = grind arith
 
       of_server : (o : Option ServerState) → th.server ≡ o → ThreadIn false now th.status th.policy (option_map (ended_server (tick_end tolled quantum th)) o)
-      of_server None e = record { serves = h.serves; having = subst (λ (o : Option ServerState). is_some o ≡ (is_live th.status && is_sporadic th.policy)) e h.having; parameters = subst (HasParameters th.policy) e h.parameters; each = λ x k. absurd (grind arith) }
+      of_server None e = record { serves = h.serves; having = subst (λ (o : Option ServerState). is_some o ≡ (is_live th.status && has_server_policy th.policy)) e h.having; parameters = subst (HasParameters th.policy) e h.parameters; each = λ x k. absurd (grind arith) }
       of_server (Some y) e = record {
         serves = h.serves;
-        having = subst (λ (o : Option ServerState). is_some o ≡ (is_live th.status && is_sporadic th.policy)) e h.having;
+        having = subst (λ (o : Option ServerState). is_some o ≡ (is_live th.status && has_server_policy th.policy)) e h.having;
         parameters = params_of (tick_end tolled quantum th) th.policy (subst (HasParameters th.policy) e h.parameters);
         each = λ x k. subst (ServerIn false now th.status) (ap (λ (o : Option ServerState). ended_server (end_at o) y) (sym e) ∙ only k)
             (server_ends tolled (slice_is_used th.policy th.slice quantum) now th.status y (live_of y e) (λ c. idle c y e) (h.each y e));

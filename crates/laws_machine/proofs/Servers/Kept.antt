@@ -14,7 +14,7 @@ use Rattle.rules_machine.specs.Threads.{is_live, thread_at, thread_in}
 use Rattle.rules_machine.specs.Declarations.{ThreadDecl, threads_of}
 use Rattle.rules_machine.specs.Turns.{turn_of}
 use Rattle.rules_machine.specs.Runs.{opening, thread_opened}
-use Rattle.rules_machine.specs.GoodState.{HasParameters, ServerIsRight, ServersAreRight, is_sporadic}
+use Rattle.rules_machine.specs.GoodState.{HasParameters, ServerIsRight, ServersAreRight, has_server_policy}
 use Rattle.rules_machine.specs.WellFormed.{IsWellFormed}
 use Rattle.rules_moves.proofs.Waiters.Best.{Each}
 use Rattle.rules_moves.proofs.Runs.Units as units_fit
@@ -57,7 +57,7 @@ servers_right bodies m all = record { having = λ t. (all t).having; parameters 
 no_server : {P : Type 0} (now : ℕ) (th : Thread P) → MayServe th.policy → th.server ≡ None → is_live th.status ≡ false → ThreadRight false now th
 no_server now th serves none dead = record {
   serves = serves;
-  having = ap is_some none ∙ ap (λ (live : Bool). live && is_sporadic th.policy) (sym dead);
+  having = ap is_some none ∙ ap (λ (live : Bool). live && has_server_policy th.policy) (sym dead);
   parameters = subst (HasParameters th.policy) (sym none) (without th.policy);
   each = λ x k. absurd (grind arith);
 }

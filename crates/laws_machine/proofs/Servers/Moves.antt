@@ -21,7 +21,7 @@ use Rattle.rules_machine.specs.Waking.{ending_with, on_top, put_to_wait, started
 use Rattle.rules_machine.specs.Lives.{with_joiner, without_life, without_top}
 use Rattle.rules_machine.specs.Cancellation.{without_cleanup}
 use Rattle.rules_machine.specs.Scheduling.{with_policy, with_priority}
-use Rattle.rules_machine.specs.GoodState.{HasParameters, is_in_condition_wait, is_sporadic}
+use Rattle.rules_machine.specs.GoodState.{HasParameters, is_in_condition_wait, has_server_policy}
 use Rattle.rules_machine.proofs.Reading.{changed-length, changed-twice, thread-other, thread-same}
 use Rattle.rules_moves.specs.Moves.{Core, MayAwake, Move, alters, begins, blocks_for, blocks_plainly, core_of, does, drops, ends_with, enters_frame, leaves_frame, lives_no_more, prices, pushed, pushes, recasts, refills_one, rejoins, renews_with, wakes_with}
 use Rattle.rules_moves.proofs.Cores.{live_seen, runnable_seen, same_read}
@@ -231,7 +231,7 @@ module _ {P : Type 0} (bodies : Bodies P) (who : Option ℕ) where
   -- a thread in a condition wait is blocked, and waits on for the mutex
   blocked_in : (own : Bool) (now : ℕ) (w : Waiting) (status : Status) (rule : Policy) (server : Option ServerState) → own ≡ false → is_blocked status ≡ true → ThreadIn own now status rule server → ThreadIn own now (blocked w) rule server
   blocked_in own now w status rule server mine b h = record {
-    having = h.having ∙ ap (λ (live : Bool). live && is_sporadic rule) (live status b);
+    having = h.having ∙ ap (λ (live : Bool). live && has_server_policy rule) (live status b);
     serves = h.serves;
     parameters = h.parameters;
     each = λ x k. let g = h.each x k in let none = none_consumed now status x b (subst (λ (own : Bool). ServerIn own now status x) mine g) in
@@ -248,7 +248,7 @@ module _ {P : Type 0} (bodies : Bodies P) (who : Option ℕ) where
   status_in : (own : Bool) (now : ℕ) (old new : Status) (rule : Policy) (server : Option ServerState) → is_live new ≡ is_live old → is_runnable new ≡ is_runnable old →
       ThreadIn own now old rule server → ThreadIn own now new rule server
   status_in own now old new rule server lives runs h = record {
-    having = h.having ∙ ap (λ (live : Bool). live && is_sporadic rule) (sym lives);
+    having = h.having ∙ ap (λ (live : Bool). live && has_server_policy rule) (sym lives);
     serves = h.serves;
     parameters = h.parameters;
     each = λ x k. let g = h.each x k in

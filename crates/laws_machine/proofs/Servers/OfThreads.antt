@@ -15,7 +15,7 @@ use Rattle.rules_machine.specs.Threads.{is_blocked, is_live, is_runnable}
 use Rattle.rules_machine.specs.Servers.{has_run, is_strict, may_open, server_of}
 use Rattle.rules_machine.specs.WellFormed.{PolicyFits}
 use Rattle.rules_machine.specs.Scheduling.{at_priority}
-use Rattle.rules_machine.specs.GoodState.{HasParameters, is_sporadic}
+use Rattle.rules_machine.specs.GoodState.{HasParameters, has_server_policy}
 use Rattle.rules_moves.proofs.Waiters.Best.{Each}
 use Rattle.laws_machine.proofs.Servers.Right.{ServerIn, Serves, each_joined, each_more, not_strict}
 use Rattle.laws_machine.proofs.Servers.Changed.{activated_in, high_parts, new_in, planned_in, priced_server}
@@ -35,7 +35,7 @@ fits_serve (policy.Sporadic params) h = tt
 fits_serve (policy.Strict params) h = (h.2.some_pending, h.2.budget_within_period)
 
 pub record ThreadIn (own : Bool) (now : ℕ) (status : Status) (rule : Policy) (server : Option ServerState) : Type 0 where
-  pub having : is_some server ≡ (is_live status && is_sporadic rule)
+  pub having : is_some server ≡ (is_live status && has_server_policy rule)
   pub serves : MayServe rule
   pub parameters : HasParameters rule server
   pub each : (s : ServerState) → server ≡ Some s → ServerIn own now status s
