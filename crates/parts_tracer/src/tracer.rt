@@ -135,11 +135,24 @@ impl<'a, K: Sink> Tracer<'a, K> {
         requires { IsNamed names.now e.now }
         ensures { Prints K.text K.faults self.old self.new (line names.now now e.now) }
     {
-        self.hundred.turn_to(now.get());
+        if !self.hundred.has(now.get()) {
+            self.put_turned(now, e, names);
+            return;
+        }
         let line = EventLine::<0>::new(&self.hundred, now, e, names);
         if self.failed || !self.sink.take_line(line) {
             self.put_whenever(now, e, names);
         }
+    }
+
+    // The same of the first event of a hundred.
+    #[inline(never)]
+    fn put_turned(&mut self, now: Tick, e: &Event, names: &Names)
+        requires { IsNamed names.now e.now }
+        ensures { Prints K.text K.faults self.old self.new (line names.now now e.now) }
+    {
+        self.hundred.turn_to(now.get());
+        self.put_whenever(now, e, names);
     }
 
     // Prints the line of any event, by one write, whether or not the sink takes it at once.
