@@ -37,6 +37,11 @@ strip_line() {
     strip --version 2>/dev/null | head -n 1
 }
 
+# The newest version of glibc that a program asks for, which is the oldest that it runs with.
+glibc_of() {
+    objdump -T "$1" | sed -n 's/.*(\{0,1\}GLIBC_\([0-9.]*\).*/\1/p' | sort -V | tail -n 1
+}
+
 make() {
     local version
     version=$(cat VERSION)
@@ -52,6 +57,7 @@ make() {
 version $version
 date $(date -u +%Y-%m-%d)
 machine $(uname -sm)
+glibc $(glibc_of "$release")
 toolchain $(value_of toolchain "$built.record")
 code $(value_of code "$built.record")
 sources $(value_of sources "$built.record")

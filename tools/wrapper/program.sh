@@ -103,13 +103,19 @@ choose_program() {
     still_counts || look
 }
 
+# The oldest glibc that the release runs with, where its manifest tells it.
+from_version() {
+    oldest=$(value_of glibc "$manifest")
+    [ -z "$oldest" ] || echo " $oldest or later"
+}
+
 # Why the release cannot be run here.
 does_not_start() {
     [ -x "$release" ] || {
         echo "it may not be executed ('chmod +x release/pse52', or put it where the file system lets programs run)"
         return
     }
-    echo "it is for $(value_of machine "$manifest") with glibc, and does not start on this machine, $(uname -sm)"
+    echo "it is for $(value_of machine "$manifest") with glibc$(from_version), and does not start on this machine, $(uname -sm)"
 }
 
 # The release whatever stands here, where its user asks for it by name.

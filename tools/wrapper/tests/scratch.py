@@ -59,7 +59,7 @@ class Checkout:
         program = PROGRAM.format(name="release")
         self.write("release/pse52", program)
         (self.top / "release/pse52").chmod(0o755)
-        self.write("release/MANIFEST", f"version 1.2.3\ndate 2026-01-02\nmachine {platform.system()} {platform.machine()}\ntoolchain t\n"
+        self.write("release/MANIFEST", f"version 1.2.3\ndate 2026-01-02\nmachine {platform.system()} {platform.machine()}\nglibc 2.34\ntoolchain t\n"
                    f"code {self.sum('code')}\nsources {self.sum('sources')}\nprogram {digest(program)}\n")
 
     def put_built(self) -> None:

@@ -129,7 +129,7 @@ class Programs(unittest.TestCase):
         for words in (("run", "7"), ("--released", "run", "7")):
             ended = self.checkout.run(*words, text=SCRIPT)
             self.assertEqual((ended.status, ended.out), (70, ""))
-            self.assertIn("does not start on this machine", ended.err)
+            self.assertIn("with glibc 2.34 or later, and does not start on this machine", ended.err)
 
     def test_a_copy_looks_again(self) -> None:
         self.checkout.put_release()
