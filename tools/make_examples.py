@@ -35,7 +35,8 @@ GALLERY = """\
 # Examples
 
 Each example is a script with its trace and its picture. In this order they make a short course on realtime scheduling. Under
-each picture stands what the script's comment says of it, tick by tick, with the section of IEEE 1003.1-2017 that has the rule.
+each picture stands what the script's comment says of it, tick by tick, with the section of IEEE 1003.1-2017 that has the rule
+(XSH is its volume System Interfaces).
 
 To look at one, in a terminal, in a page to zoom and step through, and in a page to change it (docs/LAB.md):
 
