@@ -25,7 +25,7 @@ MEANT = {
     "mq": "queue", "condition": "cond", "clock_gettime": "gettime", "now": "gettime", "timer_create": "timer",
     "settime": "clock_settime", "settimeofday": "clock_settime", "gettimeofday": "real_gettime", "sem_clockwait": "sem_timedwait",
     "pthread_mutex_clocklock": "timedlock", "pthread_cond_clockwait": "timedwait",
-    "pthread_kill": "tkill", "raise": "kill", "pthread_sigmask": "sigmask", "sigprocmask": "sigmask", "sigaction": "action",
+    "pthread_kill": "tkill", "raise": "tkill", "pthread_sigmask": "sigmask", "sigprocmask": "sigmask", "sigaction": "action",
     "sigwait": "sigwaitinfo", "pthread_cleanup_push": "push", "pthread_cleanup_pop": "pop", "compute": "run", "work": "run",
     "exec": "run", "execute": "run", "busy": "run", "for": "loop", "repeat": "loop", "while": "forever", "do": "forever",
     "slice": "quantum", "timeslice": "quantum", "done": "end", "}": "end", "fi": "end", "let": "set", "recv": "mq_receive",

@@ -27,6 +27,7 @@ CASES = [
     ("sem s 0\n" + BODY.format("sem_give s"), 3, 1, "UnknownWord", "`sem_post` is what does it here"),
     (BODY.format("sleep_until 5"), 2, 1, "UnknownWord", "`clock_nanosleep` is what does it here"),
     (BODY.format("increase 5"), 2, 1, "UnknownWord", "`add` is what does it here"),
+    (BODY.format("raise rt1"), 2, 1, "UnknownWord", "`tkill` is what does it here"),  # by the standard it is for the caller
     (BODY.format("  rum 3"), 2, 3, "UnknownWord", "did you mean `run`?"),
     (BODY.format("else"), 2, 1, "UnknownWord", "there is no `else`"),
     (BODY.format("if ENOENT\nend"), 2, 4, "UnknownWord", "`EAGAIN`"),
