@@ -71,7 +71,11 @@ explain_status() {
         0) ;;
         1) say "the program does not know these words: it is older than the commands of 'pse52 --help'" ;;
         2) explain_refusal "$@" ;;
-        3) say 'the text has more bytes than the command reads: 1048576 of a script, 67108864 of tasks or with a trace' ;;
+        3)
+            case $1 in
+                upgrade) say 'the script, or the one of version 2 that it would be, has more than 1048576 bytes' ;;
+                *) say 'the text has more bytes than the command reads: 1048576 of a script, 67108864 of tasks or with a trace' ;;
+            esac ;;
         4) say 'the text could not be read' ;;
         5) [ -n "$writes_to_pipe" ] || say 'standard output could not be written' ;; # else its reader had enough
         6) say 'there was not enough memory; nothing was written' ;;

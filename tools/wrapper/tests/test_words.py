@@ -107,6 +107,14 @@ class Words(unittest.TestCase):
             self.assertEqual((ended.status, ended.out, ended.err.count("\n")), (status, "", 1))
             self.assertIn(part, ended.err)
 
+    def test_an_upgrade_that_would_be_too_long_is_told(self) -> None:
+        self.checkout.put_built()
+        self.checkout.write("crates/pse52/out/pse52", "#!/bin/sh\nexit 3\n")
+        subprocess.run(["sh", str(self.checkout.top / "tools/wrapper/record.sh"), self.checkout.sum("sources")], check=True)
+        ended = self.checkout.run("upgrade", "s.task", "--explain")
+        self.assertEqual((ended.status, ended.out), (3, ""))
+        self.assertIn("the one of version 2 that it would be", ended.err)
+
     def test_a_line_of_another_text_that_is_refused_is_shown(self) -> None:
         self.checkout.put_built()
         self.checkout.write("crates/pse52/out/pse52", "#!/bin/sh\nprintf 'refused 2 6 PeriodRange\\n'\nexit 2\n")
