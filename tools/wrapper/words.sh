@@ -5,7 +5,7 @@ help_text() {
     cat <<'END'
 usage: pse52 COMMAND NUMBERS [FILE]
 
-pse52 simulates the scheduling of a small realtime kernel (IEEE 1003.1-2017, profile PSE52), and is proved to do so.
+pse52 simulates the scheduling of a small realtime kernel (IEEE 1003.1-2017, as PSE52 of IEEE 1003.13), and is proved to do so.
 Without FILE it reads standard input. Times are in ticks.
 
   run N [SCRIPT]          runs a script to tick N, and writes its trace
