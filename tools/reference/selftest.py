@@ -27,7 +27,7 @@ import check_facts
 import generate
 from audits import audit
 from forms import Stage
-from reader import read
+from reader import Fault, FaultKind, read
 from script import canonical_text
 from simulate import Status, answer, command_of, staged
 
@@ -75,13 +75,41 @@ def difference(name: str, stage: Stage) -> str | None:
 def large_texts() -> list[tuple[str, bytes, Status, bytes]]:
     """Texts at the limits that are too large to be kept as files."""
     just_enough = b"thread a fifo 5 at 0\n" + b"yield\n" * 65_536 + b"end\n"
-    one_more = b"thread a fifo 5 at 0\n" + b"yield\n" * 65_537 + b"end\n"
+    one_more = b"thread a fifo 5 at 0\nloop 1\n" + b"yield\n" * 65_536 + b"end\nend\n"
     return [
         ("as many line ends as bytes may be", b"\n" * 1_048_576, Status.REFUSED, b"refused 1048577 14 NoThread\n"),
         ("one line end more", b"\n" * 1_048_577, Status.TOO_LONG, b"too long\n"),
         ("one step too many", one_more, Status.REFUSED, b"refused 65538 13 TooMany\n"),
         ("as many steps as may be", just_enough, Status.DONE,
          b"0 start a\n0 dispatch a 5\n1 return a yield 0 0\n1 end\nthread a ticks 1\n")]
+
+
+AT_MOST: tuple[tuple[tuple[str, ...], int, int], ...] = (
+    (("thread {} fifo 5 dormant\nend",), 64, 256), (("mutex {} none",), 64, 256), (("cond {}",), 64, 256), (("sem {} 0",), 64, 256),
+    (("queue {} 1 8",), 16, 16), (("timer {} rt1 0",), 32, 32), (("handler {}\nend", "cleanup {}\nend"), 64, 64))
+"""Declarations, in turn, with how many of them together a script of version 1 may have, and one of version 2 (docs/SCRIPT.md, Limits)."""
+
+
+def limits_wrong() -> list[str]:
+    """The declarations of which the reference refuses as many as may be, or takes one more."""
+    wrong: list[str] = []
+    for declarations, *limits in AT_MOST:
+        for heading, limit in zip(("", "version 2\n"), limits):
+            lines = [declarations[at % len(declarations)].format(f"n{at}") for at in range(limit + 1)]
+            enough = heading + "".join(f"{line}\n" for line in lines[:-1])
+            thread = "" if declarations[0].startswith("thread") else "thread a fifo 5 dormant\nend\n"
+            taken = answer((enough + thread).encode(), 0)[0]
+            refusal = f"refused {enough.count(chr(10)) + 1} 13 TooMany\n".encode()
+            agrees = taken is Status.DONE and answer(f"{enough}{lines[-1]}\n{thread}".encode(), 0)[1] == refusal
+            wrong += [] if agrees else [f"{heading}{declarations}: not {limit} at most"]
+    return wrong
+
+
+FAULTS_OF_STAGES: tuple[tuple[bytes, Stage, Fault], ...] = (
+    (b"\nfrob\n", Stage.FIRST, Fault(1, 1, FaultKind.UnknownWord)), (b"", Stage.FIRST, Fault(1, 1, FaultKind.UnknownWord)),
+    (b"\nversion 2\n", Stage.CLOCK, Fault(1, 2, FaultKind.UnknownWord)),
+    (b"\nversion 3\n", Stage.WHOLE, Fault(1, 2, FaultKind.BadVersion)))
+"""Texts that are refused at a stage: at the first each has one fault, and before the whole language there is no version."""
 
 
 ESCAPES = {"n": b"\n", "t": b"\t", "\\": b"\\"}
@@ -206,6 +234,8 @@ def main() -> int:
         wrong += [f"{words} is taken for a command"] if command_of(words) is not None else []
     compared += len(STAGES)
     wrong += [f"{words}: another stage" for words, stage in STAGES if staged(words.split())[1] is not stage]
+    compared += len(AT_MOST) + len(FAULTS_OF_STAGES)
+    wrong += [f"{text!r} has another fault at {stage.name}" for text, stage, fault in FAULTS_OF_STAGES if read(text, stage)[1] != fault]
     compared += FACTS_OF + FACTS_OF // 2 + len(list(WORKED.glob("*.audit"))) + len(LINES_OF_THE_CLOCK) + UNSET_OF
     refused, faults = faults_wrong()
     answered, others = answers.differences()
@@ -213,6 +243,7 @@ def main() -> int:
     wrong += faults + others
     wrong += audits_wrong()
     wrong += lines_wrong()
+    wrong += limits_wrong()
     wrong += words_wrong(UNSET_OF)
     wrong += facts_wrong(FACTS_OF)
     wrong += ["a canonical text is not read as itself"] * generated_differ(arguments.generated)
