@@ -8,7 +8,8 @@ of its fault; NAME.show and NAME.detail, the whole text of that command;
 NAME.canonical, its canonical text; NAME.upgrade, that of the script of version 2. NAME.horizon is the number of the command.
 Examples whose horizon is too far for a machine that ticks are passed over. Where
 the horizon is at most 10,000 each state of the run is checked too.
-Each row of tests/refused/FAULTS.txt is a text that is refused, with the line and kind of its least fault.
+Each row of tests/refused/FAULTS.txt is a text that is refused, with the line and kind of its least fault. As many declarations
+as docs/SCRIPT.md allows are taken, and one more is refused.
 Each example of AUDITS.txt is an input of `audit`, NAME.audit, and its answer, NAME.verdict.
 The facts of some generated scripts are held against their traces (check_facts.py). Generated scripts of the stage `clock` from
 which the settings are taken out run as they do without the words of that stage.
