@@ -5,7 +5,6 @@ lower priority under a priority ceiling. Where a thread is none of these the ana
 """
 from __future__ import annotations
 
-from collections.abc import Iterable
 from dataclasses import dataclass
 from fractions import Fraction
 
@@ -15,7 +14,7 @@ from .jobs import SLEEP, Jobs, NamesNothing, periodic
 from .measures import Measure, jobs_of, shown
 from .seen import Seen
 from .tables import Table
-from .sections import Stretch, mutexes, stretches_of
+from .sections import Perhaps, Stretches, mutexes, stretches_of
 from .tasks import GREATEST_COST, GREATEST_PERIOD, NoTask, Script, Task, tasks_of, whole_script_reasons
 
 TOOL = "pse52-measure"
@@ -62,20 +61,35 @@ def shared(script: Script, tasks: list[Task]) -> dict[int, list[Task]]:
     return {number: found for number, found in users.items() if len(found) > 1}
 
 
-def ceilings_of(script: Script, task: Task, stretches: list[Stretch]) -> list[tuple[int, int]]:
-    """The ticks of a thread with the highest ceiling that it has there, 0 where it has none. One below its own priority gives none."""
+# The ticks of each stretch with the highest ceiling that a thread has there, 0 where it has none; what a test may leave out is a list.
+Ceilings = list["tuple[int, int] | Ceilings"]
+
+
+def ceilings_of(script: Script, task: Task, stretches: Stretches) -> Ceilings:
+    """The ceilings of a thread in its stretches. One below its own priority gives none."""
     kinds = [kind for _, kind in mutexes(script)]
-    return [(stretch.ticks, max((kinds[m].ceiling or 0 for m in stretch.owned if (kinds[m].ceiling or 0) >= task.priority), default=0))
+    return [ceilings_of(script, task, stretch.found) if isinstance(stretch, Perhaps) else
+            (stretch.ticks, max((kinds[m].ceiling or 0 for m in stretch.owned if (kinds[m].ceiling or 0) >= task.priority), default=0))
             for stretch in stretches]
 
 
-def longest_above(ceilings: Iterable[tuple[int, int]], priority: int) -> int:
+def longest_above(ceilings: Ceilings, priority: int) -> int:
     """The longest stretch in which the ceiling is at least this priority."""
-    longest = now = 0
-    for ticks, ceiling in ceilings:
-        now = now + ticks if ceiling >= priority else 0
-        longest = max(longest, now)
-    return longest
+    return _longest_above(ceilings, priority, 0)[0]
+
+
+def _longest_above(ceilings: Ceilings, priority: int, now: int) -> tuple[int, int]:
+    """The longest stretch, and that at the end, where one of `now` ticks lies in front: each test may come true or not."""
+    longest = now
+    for part in ceilings:
+        if isinstance(part, list):
+            most, taken = _longest_above(part, priority, now)
+            longest, now = max(longest, most), max(now, taken)
+        else:
+            ticks, ceiling = part
+            now = now + ticks if ceiling >= priority else 0
+            longest = max(longest, now)
+    return longest, now
 
 
 class Analysis:
@@ -94,7 +108,7 @@ class Analysis:
             if row.blocking > GREATEST_COST:
                 row.why = f"a thread below it may own a mutex for more than {GREATEST_COST} ticks"
 
-    def _ceilings(self, task: Task) -> list[tuple[int, int]] | str:
+    def _ceilings(self, task: Task) -> Ceilings | str:
         try:
             return ceilings_of(self.script, task, stretches_of(self.script, task.name, frozenset(shared(self.script, self._tasks))))
         except NoTask as why:

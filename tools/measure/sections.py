@@ -21,11 +21,21 @@ class Stretch:
     owned: frozenset[int]
 
 
+@dataclass(frozen=True)
+class Perhaps:
+    """What a test leaves out where it does not come true: then the thread keeps what it owned in front of it."""
+
+    found: list[Stretch | Perhaps]
+
+
+Stretches = list[Stretch | Perhaps]
+
+
 def mutexes(script: Script) -> list[tuple[str, MutexKind]]:
     return [(named.name, named.kind) for named in script.objects(ObjectKind.MUTEX)]
 
 
-def stretches_of(script: Script, name: str, shared: frozenset[int]) -> list[Stretch]:
+def stretches_of(script: Script, name: str, shared: frozenset[int]) -> Stretches:
     """The ticks of a thread's body with the mutexes that it owns in each. `shared` are those that others lock too.
 
     Raises NoTask where they cannot be told, or where the thread may wait while it owns one.
@@ -37,6 +47,11 @@ def stretches_of(script: Script, name: str, shared: frozenset[int]) -> list[Stre
     return found
 
 
+def ticks_of(part: Stretch | Perhaps) -> int:
+    """The ticks of a part, where each test comes true."""
+    return part.ticks if isinstance(part, Stretch) else sum(map(ticks_of, part.found))
+
+
 class _Sections:
     """Goes over the steps of one body."""
 
@@ -45,15 +60,15 @@ class _Sections:
         self._kinds = [kind for _, kind in mutexes(script)]
         self._costs = Costs(script)
 
-    def block(self, block: Block, owned: Owned) -> tuple[list[Stretch], Owned]:
+    def block(self, block: Block, owned: Owned) -> tuple[Stretches, Owned]:
         """The stretches of a block that begins with these mutexes, and what is owned behind it."""
-        found: list[Stretch] = []
+        found: Stretches = []
         for step in block:
             more, owned = self._step(step, owned)
             found += more
         return found, owned
 
-    def _step(self, step: Step, owned: Owned) -> tuple[list[Stretch], Owned]:
+    def _step(self, step: Step, owned: Owned) -> tuple[Stretches, Owned]:
         if isinstance(step, Call):
             return self._plain(1, owned), self._behind(step, owned)
         if isinstance(step, Guard):
@@ -67,18 +82,20 @@ class _Sections:
             raise NoTask("a section of a mutex does not end in the block in which it begins")
         return self._passes(step, found, owned), owned
 
-    def _passes(self, step: Test | Loop, found: list[Stretch], owned: Owned) -> list[Stretch]:
+    def _passes(self, step: Test | Loop, found: Stretches, owned: Owned) -> Stretches:
         """All passes of a block: the first, those between with the jumps as one stretch of what is owned all the time, and the last."""
-        if isinstance(step, Test) or step.times == 1:
+        if isinstance(step, Test):
+            return [Perhaps(found)]
+        if step.times == 1:
             return found
         if step.times is None and owned:
             raise NoTask("a loop has no end while it owns a mutex")
         if not owned:
             return found
-        ticks = sum(stretch.ticks for stretch in found)
+        ticks = sum(map(ticks_of, found))
         return [*found, *self._plain(step.times - 1 + (step.times - 2) * ticks, owned), *found]
 
-    def _guard(self, step: Guard, owned: Owned) -> tuple[list[Stretch], Owned]:
+    def _guard(self, step: Guard, owned: Owned) -> tuple[Stretches, Owned]:
         """The push, the block, the pop, and the cleanup handler with its end where the pop runs it."""
         found, behind = self.block(step.body, owned)
         found = [*self._plain(1, owned), *found, *self._plain(1, behind)]
@@ -88,7 +105,7 @@ class _Sections:
         more, behind = self.block(handler, behind)
         return [*found, *more, *self._plain(1, behind)], behind
 
-    def _plain(self, ticks: int, owned: Owned) -> list[Stretch]:
+    def _plain(self, ticks: int, owned: Owned) -> Stretches:
         return [Stretch(ticks, frozenset(owned))]
 
     def _behind(self, call: Call, owned: Owned) -> Owned:

@@ -43,6 +43,12 @@ class Sections(unittest.TestCase):
     def test_longest_above(self) -> None:
         self.assertEqual([longest_above([(3, 5), (4, 9), (2, 0), (6, 5)], priority) for priority in (1, 5, 6, 9, 10)], [7, 7, 4, 4, 0])
 
+    def test_a_test_that_gives_a_mutex_back_may_not_come_true(self) -> None:
+        """Then low owns m all the time. Where it comes true, the lock is a tick without m: 3 + 1 in front, 4 + 1 + 1 behind."""
+        for inner, ticks in (("unlock m\nlock m", 8), ("run 2\nunlock m\nlock m", 8), ("run 9\nunlock m\nlock m", 13), ("unlock m\nlock m\nrun 9", 14),
+                             ("unlock m\nlock m\nrun 20\nunlock m\nlock m", 21), ("if 0\nunlock m\nlock m\nend\nrun 2", 10), ("run 2", 10)):
+            self.assertEqual(blocking(f"lock m\nrun 3\nif 0\n{inner}\nend\nrun 4\nunlock m"), [ticks], inner)
+
     def test_sections_that_do_not_end_in_their_block(self) -> None:
         for job in ("loop 2\nlock m\nend\nunlock m", "lock m\nif 0\nunlock m\nend"):
             self.assertIn("does not end in the block in which it begins", str(blocking(job)[0]), job)
