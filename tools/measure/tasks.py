@@ -167,7 +167,7 @@ def tasks_of(text: bytes) -> tuple[Script, list[Task]]:
     for number, named in enumerate(script.objects(ObjectKind.THREAD)):
         if named.kind.start is None and number not in created:
             continue
-        found.append(_task(script, named.name, named.kind, costs))
+        found.append(_task(script, named.name, named.kind, number in created, costs))
     return script, found
 
 
@@ -176,15 +176,15 @@ def _body(declaration: object) -> Block:
     return kind.body if isinstance(kind, (ThreadKind, HandlerKind, CleanupKind)) else []
 
 
-def _task(script: Script, name: str, kind: ThreadKind, costs: Costs) -> Task:
+def _task(script: Script, name: str, kind: ThreadKind, is_created: bool, costs: Costs) -> Task:
     priority = kind.policy.priority if isinstance(kind.policy, (Fifo, Rr)) else kind.policy.high
     task = Task(name, priority, kind.start or 0)
     task.locks = frozenset(call.operands[0] for call in mutex_calls(script, kind.body) if call.word in LOCKS)
     try:
         if not isinstance(kind.policy, (Fifo, Rr)):
             raise NoTask("it has a server")
-        if kind.start is None:
-            raise NoTask("another thread creates it")
+        if is_created:
+            raise NoTask("another thread creates it" + ("" if kind.start is None else f", perhaps before {kind.start}"))
         part = periodic_part(kind.body)
         if part is not None:
             fill_periodic(task, *part, costs)

@@ -75,6 +75,8 @@ class TasksByHand(unittest.TestCase):
         """b is created by a, and c by nobody, so that c is not there at all."""
         text = "thread c fifo 6 dormant\nrun 9\nend\nthread b fifo 7 dormant\nrun 1\nend\nthread a fifo 5 at 0\ncreate b\nend\n"
         self.assertEqual([(task.name, task.why) for task in tasks_of(text.encode())[1]], [("b", "another thread creates it"), ("a", None)])
+        early = text.replace("thread b fifo 7 dormant", "thread b fifo 7 at 30")
+        self.assertEqual(tasks_of(early.encode())[1][0].why, "another thread creates it, perhaps before 30")
 
     def test_the_deadline_and_the_bound(self) -> None:
         """A period of 20 and a deadline of 35: response times are asked for up to the greater one."""
