@@ -92,6 +92,8 @@ def measured(said: argparse.Namespace) -> str:
     analysis = Analysis(said.script.read_bytes(), {str(m.words["thread"]): m.words["deadline"] for m in measures if {"thread", "deadline"} <= set(m.words)})
     analysis.prove()
     analysis.look(seen, measures)
+    for note in analysis.notes:
+        say(TOOL, note)
     tables.append(rta_table(analysis))
     return as_csv(tables) if said.csv else heading(seen) + as_text(tables) + remarks(analysis)
 

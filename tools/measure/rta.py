@@ -19,6 +19,7 @@ from .tasks import GREATEST_COST, GREATEST_PERIOD, NoTask, Script, Task, tasks_o
 
 TOOL = "pse52-measure"
 GREATEST_BOUND = 100_000_000
+MOST_TASKS = 255
 
 
 @dataclass
@@ -99,6 +100,7 @@ class Analysis:
         self.script, tasks = tasks_of(text)
         whole = whole_script_reasons(self.script)
         self.rows = [Analysed(task, deadlines.get(task.name, task.period)) for task in tasks]
+        self.notes: list[str] = []
         self._sections = {task.name: self._ceilings(task) for task in tasks}
         for row in self.rows:
             row.why = row.task.why or whole or self._reason(row.task)
@@ -107,6 +109,8 @@ class Analysis:
                                     for other in self.rows if other.task.priority < row.task.priority), default=0)
             if row.blocking > GREATEST_COST:
                 row.why = f"a thread below it may own a mutex for more than {GREATEST_COST} ticks"
+            elif row.why is None and len(self._above(row)) >= MOST_TASKS:
+                row.why = f"more than {MOST_TASKS - 1} threads are above it"
 
     def _ceilings(self, task: Task) -> Ceilings | str:
         try:
@@ -137,9 +141,12 @@ class Analysis:
     def _tasks(self) -> list[Task]:
         return [row.task for row in self.rows]
 
+    def _above(self, row: Analysed) -> list[Task]:
+        return [task for task in self._tasks if task.priority > row.task.priority]
+
     def text_for(self, row: Analysed) -> bytes:
         """The tasks from a row up, as `rta` reads them. Only the order of priorities counts there, and no two may be the same."""
-        above = sorted((other.task for other in self.rows if other.task.priority > row.task.priority), key=lambda task: -task.priority)
+        above = sorted(self._above(row), key=lambda task: -task.priority)
         lines = [f"task {task.name} {255 - rank} {task.cost} {task.period or GREATEST_PERIOD} {row.blocking if task is row.task else 0}\n"
                  for rank, task in enumerate([*above, row.task])]
         return "".join(lines).encode()
@@ -152,19 +159,26 @@ class Analysis:
             row.proved = int(said[3]) if said[2] == "response" else None
 
     def look(self, seen: Seen, measures: list[Measure]) -> None:
-        """The jobs that were seen: by the measure that is named as the thread, else from each release to the sleep behind it."""
-        named = {measure.words.get("thread"): measure for measure in measures if measure.words["kind"] == "periodic"}
+        """The jobs that were seen: from each release up to what the measure of the thread says, else to the sleep behind it.
+
+        Where the script says when a task releases its jobs, and how many there are, no measure says otherwise.
+        """
+        named = {measure.words.get("thread"): measure.words for measure in measures if measure.words["kind"] == "periodic"}
         for row in self.rows:
-            task = row.task
+            task, words = row.task, named.get(row.task.name, {})
             try:
-                if task.name in named:
-                    row.seen = jobs_of(seen, named[task.name].words)
-                elif task.period is not None:
-                    row.seen = periodic(seen, task.name, task.period, task.phase, SLEEP, task.jobs)
+                if task.period is not None:
+                    jobs = periodic(seen, task.name, task.period, task.phase, words.get("to", SLEEP), words.get("jobs", task.jobs))
+                    row.seen = Jobs(jobs.jobs, jobs.end if (ended := seen.exited(task.name)) is None else ended)
+                elif words:
+                    row.seen = jobs_of(seen, words)
                 elif task.why is None:
                     row.seen = periodic(seen, task.name, max(1, seen.end), task.phase, f"exit {task.name}", 1)
             except NamesNothing:
                 row.seen = None
+            if task.period is not None and words and (words["period"], words.get("phase", 0)) != (task.period, task.phase):
+                self.notes.append(f"measure '{words['name']}' counts its jobs otherwise than --rta does: '{task.name}' releases one each "
+                                  f"{task.period} ticks from {task.phase} on; say period={task.period} phase={task.phase}")
 
     @property
     def utilisation(self) -> Fraction:

@@ -106,6 +106,15 @@ class Tasks(unittest.TestCase):
         self.assertEqual([row[4] for row in analysed(sleeper).values()], [False, False])
 
 
+    def test_as_many_threads_as_there_may_be(self) -> None:
+        """`rta` takes 255 tasks. Each job has a jump and a sleep, so that behind 254 others one takes 2 + 254 * 2 ticks."""
+        low = thread("low", 1, "", 100000).replace("\n\n", "\n")
+        for count, why, proved in ((254, None, 510), (255, "more than 254 threads are above it", None)):
+            others = "".join(thread(f"t{number}", 9, "", 1000).replace("\n\n", "\n") for number in range(count))
+            row = whole("version 2\n" + others + low, 10).rows[-1]
+            self.assertEqual((row.why, row.proved), (why, proved))
+
+
 class ResponseTimes(unittest.TestCase):
     def test_the_verdict_of_an_overload(self) -> None:
         # hog takes 12 of 20 ticks and lo needs 13: hog is in time, and lo is late from its first job on.

@@ -11,7 +11,7 @@ from measure.tasks import Task
 from view.lines import read_trace
 from view.tests.details import detail_of
 
-from .test_rta import thread
+from .test_rta import thread, whole
 
 
 def row(proved: int | None, deadline: int | None, longest: int | None, period: int | None = 10, why: str | None = None) -> Analysed:
@@ -37,6 +37,25 @@ class Verdicts(unittest.TestCase):
             given = row(None, deadline, None, why="it has a server")
             given.seen = Jobs([Job(0, None)], 100)
             self.assertEqual(given.verdict, wanted)
+
+    def test_a_job_of_a_thread_that_ended_is_as_old_as_it_was_there(self) -> None:
+        """The request of 42 acts in place of the sleep of the third job, and a ends at 48: 8 ticks behind the release, and not 160."""
+        row = whole(thread("a", 5, "run 3", 20) + "thread b fifo 9 at 41\ncancel a\nend\n", 200).rows[0]
+        self.assertEqual(([job.done for job in row.seen.jobs], row.seen.end, row.verdict), ([4, 25, None], 48, "not analysed"))
+        for deadline, verdict in ((8, "not analysed"), (7, "late")):
+            row.deadline = deadline
+            self.assertEqual(row.verdict, verdict)
+
+    def test_a_measure_that_counts_otherwise(self) -> None:
+        """The script says that a releases its jobs from 7 on; each takes 5 or 6 ticks, whatever phase a measure names."""
+        script = thread("a", 5, "run 4", 20, 7).encode()
+        for words, told in (("thread=a period=20", 1), ("thread=a period=10 phase=7", 1), ("thread=a period=20 phase=7", 0)):
+            analysis = Analysis(script, {})
+            analysis.prove()
+            analysis.look(Seen(read_trace(detail_of(script, 100).splitlines(keepends=True))), [measure_of_words(words)])
+            row, = analysis.rows
+            self.assertEqual((row.verdict, row.proved, row.seen.responses, len(analysis.notes)), ("in time", 6, [5, 6, 6, 6, 6], told), words)
+        self.assertEqual(Analysis(script, {}).notes, [])
 
     def test_the_table_and_the_remarks(self) -> None:
         """high has 3 + 2 of 10 ticks, low 8 + 2 of 20, and its response time is 10 + 2 * 5 = 20; s has a server."""
