@@ -2,7 +2,7 @@
 from __future__ import annotations
 
 from .jobs import SLEEP, NamesNothing, in_its_first_job
-from .measures import Measure, jobs_of, lost_signal
+from .measures import Measure, Table, jobs_of, lost_signal
 from .seen import Seen
 
 
@@ -53,15 +53,16 @@ def _lost(seen: Seen, measure: Measure) -> str | None:
             "pending; no job ends for that release, and each job behind it counts as later than it is")
 
 
+def ends_behind_a_release(seen: Seen, words: Table) -> bool:
+    """Whether a periodic thread ended with jobs that are not done, as it jumped back or slept for one more release, and has no job there."""
+    return words["kind"] == "periodic" and seen.exited(str(words["thread"])) is not None and bool(jobs_of(seen, words).open)
+
+
 def _ended(seen: Seen, measure: Measure) -> str | None:
-    """A thread that ends has a release behind its last job, as it jumped back or slept for it, and no job there."""
-    ended = seen.exited(str(measure.words.get("thread")))
-    if measure.words["kind"] != "periodic" or ended is None:
+    if not ends_behind_a_release(seen, measure.words):
         return None
-    jobs = jobs_of(seen, measure.words)
+    ended, jobs = seen.exited(str(measure.words["thread"])), jobs_of(seen, measure.words)
     done = len(jobs.jobs) - len(jobs.open)
-    if done == len(jobs.jobs):
-        return None
     return (f"measure '{measure.name}': its thread ended at {ended}, and of {len(jobs.jobs)} jobs that were released up to there {done} are done; "
             f"where it has no more, say jobs={done}")
 

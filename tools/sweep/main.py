@@ -20,7 +20,7 @@ from .groups import columns_of, grouped, lined_up
 from .plan import Sweep, WrongSweep, read_sweep
 from .plot import NoPlot, draw, gnuplot
 from .table import Kept, read_table, table
-from .unfinished import hidden, measured, none_done, nothing_done
+from .unfinished import Ended, behind_an_end, hidden, measured, none_done, nothing_done
 
 TOP = Path(__file__).resolve().parents[2]
 
@@ -118,7 +118,7 @@ def _span(seconds: float) -> str:
     return f"{seconds / 60:.0f} min" if seconds < 6000 else f"{seconds / 3600:.1f} h"
 
 
-def carry_out(sweep: Sweep, said: argparse.Namespace, program: list[str]) -> Path:
+def carry_out(sweep: Sweep, said: argparse.Namespace, program: list[str]) -> tuple[Path, Ended]:
     """Carries out the runs that are not done yet, and writes the table. The rows stay, so that the same words need no run again."""
     kept_file = sweep.beside(said.output, ".rows")
     if said.anew:
@@ -137,7 +137,7 @@ def carry_out(sweep: Sweep, said: argparse.Namespace, program: list[str]) -> Pat
     again = sum(not sweep.lasts(row) for row in kept.rows.values())
     if again:
         print(f"pse52-sweep: runs that something ended from outside, as their rows say: {again}; the same words do them again", file=sys.stderr)
-    return path
+    return path, kept.ended
 
 
 def over_of(sweep: Sweep, said: str | None) -> list[str]:
@@ -185,7 +185,7 @@ def carried_out(said: argparse.Namespace) -> None:
     for warning in filter(None, (measure.warning for measure in sweep.measures)):
         print(f"pse52-sweep: {warning}", file=sys.stderr)
     program = program_of(said.program)
-    path = carry_out(sweep, said, program)
+    path, ended = carry_out(sweep, said, program)
     rows = read_table(path)
     print(path)
     if by:
@@ -193,7 +193,7 @@ def carried_out(said: argparse.Namespace) -> None:
     if refused := refusals(rows):
         print(f"pse52-sweep: {refused}", file=sys.stderr)
     undone = list(none_done(sweep, rows, program))
-    for note in [*hidden(sweep, rows), *(nothing_done(measure) for measure, starved in undone if starved)]:
+    for note in [*hidden(sweep, rows, ended), *behind_an_end(sweep, rows, ended), *(nothing_done(measure) for measure, starved in undone if starved)]:
         print(f"pse52-sweep: {note}", file=sys.stderr)
     if wrong := complaints(rows, [measure for measure, starved in undone if not starved]):
         raise NamedNothing("; ".join(wrong))

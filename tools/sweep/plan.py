@@ -23,7 +23,7 @@ RESERVED = ("status", "fault")
 LASTING = frozenset(("0", "1", "2", "3"))
 # What measures a trace.
 TOOLS = Path(__file__).parents[1]
-MEASURING = [*(TOOLS / "measure" / f"{name}.py" for name in ("measures", "jobs", "usage", "seen")),
+MEASURING = [*(TOOLS / "measure" / f"{name}.py" for name in ("measures", "jobs", "notes", "usage", "seen")),
              *(TOOLS / "view" / f"{name}.py" for name in ("lines", "facts", "seen", "timeline", "tracks"))]
 
 

@@ -14,11 +14,13 @@ Rows = dict[int, list[str]]
 class Kept:
     """The file of the rows that have come. Its first line says of which sweep; a last line that is not whole does not count.
 
-    Nor does a row that does not last: its run is to be done again.
+    Nor does a row that does not last: its run is to be done again. `ended` has of each run the measures whose thread ended behind a
+    release.
     """
 
     def __init__(self, path: Path, identity: str, lasts: Callable[[list[str]], bool]) -> None:
         self._path, self._lasts = path, lasts
+        self.ended: dict[int, list[str]] = {}
         self.rows: Rows = self._read(identity)
         fresh = not self.rows
         self._file = path.open("w" if fresh else "r+")
@@ -43,13 +45,15 @@ class Kept:
                 break
             if number > 0 and self._lasts(said[1]):
                 rows[said[0]] = said[1]
+                self.ended[said[0]] = said[2] if len(said) > 2 else []
             self._size += len(line)
         return rows
 
     def add(self, line: str) -> None:
         """Keeps a row as it came."""
-        number, row = json.loads(line)
+        number, row, *ended = json.loads(line)
         self.rows[number] = row
+        self.ended[number] = ended[0] if ended else []
         self._file.write(line if line.endswith("\n") else line + "\n")
         self._file.flush()
 

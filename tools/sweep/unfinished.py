@@ -12,14 +12,27 @@ from .plan import Sweep
 from .worker import Streams
 
 Rows = list[dict[str, str]]
+# Of each run the measures whose thread ended behind a release, with a job there that is not done.
+Ended = dict[int, list[str]]
 
 
-def hidden(sweep: Sweep, rows: Rows) -> Iterator[str]:
-    """Which measures have runs whose late jobs no response time shows, since they are not done at the end."""
+def behind_an_end(sweep: Sweep, rows: Rows, ended: Ended) -> Iterator[str]:
+    """Which measures have runs whose thread ended, and jobs there that it may not have."""
+    for measure in sweep.measures:
+        count = sum(measure.name in names for names in ended.values())
+        if count:
+            yield (f"measure '{measure.name}': in {count} of {len(rows)} runs its thread ended behind releases whose jobs are not done, and "
+                   f"'{measure.name}_open' and '{measure.name}_late' count them; where it has no more jobs, say how many with 'jobs'")
+
+
+def hidden(sweep: Sweep, rows: Rows, ended: Ended | None = None) -> Iterator[str]:
+    """Which measures have runs whose late jobs no response time shows, since they are not done at the end; not those of a thread that ended."""
     for measure in sweep.measures:
         late, greatest = f"{measure.name}_late", f"{measure.name}_greatest"
         count = 0
-        for row in rows if late in measure.columns else ():
+        for number, row in enumerate(rows if late in measure.columns else ()):
+            if measure.name in (ended or {}).get(number, ()):
+                continue
             words = filled(measure.words, {name: int(row[name]) for name in sweep.names})
             deadline = words.get("deadline", words.get("period"))
             count += row[late] not in ("", "0") and int(row[greatest] or 0) <= deadline

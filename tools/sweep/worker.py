@@ -17,6 +17,8 @@ from tempfile import TemporaryFile
 sys.path.insert(0, str(Path(__file__).resolve().parents[1]))
 
 from measure.jobs import NamesNothing  # noqa: E402
+from measure.measures import filled  # noqa: E402
+from measure.notes import ends_behind_a_release  # noqa: E402
 from measure.seen import Seen  # noqa: E402
 from sweep.plan import Run, Sweep, read_sweep  # noqa: E402
 from view.lines import NotATraceLine, read_trace  # noqa: E402
@@ -60,21 +62,22 @@ def _content(file: int) -> bytes:
     return os.pread(file, os.fstat(file).st_size, 0)
 
 
-def row_of(sweep: Sweep, run: Run, program: list[str], streams: Streams) -> list[str]:
-    """The row of a run: its values, the exit status, its fault, and the figures."""
+def row_of(sweep: Sweep, run: Run, program: list[str], streams: Streams) -> tuple[list[str], list[str]]:
+    """The row of a run: its values, the exit status, its fault, and the figures; and the measures whose thread ended behind a release."""
     try:
         status, told, said = streams.run([*program, sweep.command, str(sweep.horizon_of(run))], sweep.script(run).encode())
     except OSError as error:
         status, told, said = NOT_STARTED, b"", f"{program[0]}: {error.strerror}".encode()
     fault = fault_of(status, told, said)
-    figures = [""] * sweep.figures
+    figures, ended = [""] * sweep.figures, []
     if status == 0:
         try:
             seen, values = Seen(read_trace(told.splitlines(keepends=True))), sweep.values_of(run)
             figures = [figure for measure in sweep.measures for figure in measure.figures(seen, values)]
+            ended = [measure.name for measure in sweep.measures if ends_behind_a_release(seen, filled(measure.words, values))]
         except (NotATraceLine, NamesNothing) as wrong:
             fault = str(wrong)
-    return [*map(str, run.values), str(status), fault, *figures]
+    return [*map(str, run.values), str(status), fault, *figures], ended
 
 
 def fault_of(status: int, told: bytes, said: bytes) -> str:
@@ -99,7 +102,7 @@ def main(words: list[str]) -> int:
     with Streams() as streams:
         for number in map(int, text.split()):
             # One write a line, so that lines of jobs that share an output never mix.
-            sys.stdout.write(json.dumps([number, row_of(sweep, sweep.run(number), program, streams)]) + "\n")
+            sys.stdout.write(json.dumps([number, *row_of(sweep, sweep.run(number), program, streams)]) + "\n")
             sys.stdout.flush()
     return 0
 

@@ -326,8 +326,8 @@ class Sweeps(Folder):
         self.assertEqual((ended.returncode, ended.stderr.splitlines()[-1]), (3, "pse52-sweep: --program pse52 'run: No closing quotation"))
         sweep = read_sweep(self.folder / "two.toml")
         with Streams() as streams:
-            row = row_of(sweep, sweep.run(0), ["/nowhere/pse52"], streams)
-        self.assertEqual(row, ["2", "0", "127", "/nowhere/pse52: No such file or directory"] + [""] * 7)
+            row, ended = row_of(sweep, sweep.run(0), ["/nowhere/pse52"], streams)
+        self.assertEqual((row, ended), (["2", "0", "127", "/nowhere/pse52: No such file or directory"] + [""] * 7, []))
 
 
 class Pictures(Folder):
@@ -365,7 +365,7 @@ class Example(unittest.TestCase):
         self.assertEqual(len(stored), 1 + sweep.count)
         with Streams() as streams:
             for number in range(0, sweep.count, 19):
-                self.assertEqual(stored[1 + number], row_of(sweep, sweep.run(number), REFERENCE.split(), streams))
+                self.assertEqual(stored[1 + number], row_of(sweep, sweep.run(number), REFERENCE.split(), streams)[0])
 
     def test_the_answer_of_the_page(self) -> None:
         with (TOP / "examples" / "sweeps" / "server_budget.csv").open(newline="") as file:

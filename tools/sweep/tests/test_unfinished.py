@@ -64,6 +64,21 @@ class Unfinished(Folder):
         self.assertEqual(ended.returncode, 2)
         self.assertIn("measure 'low': in no run a job is done; does 'to' name what comes?", ended.stderr)
 
+    def test_a_thread_that_ends_behind_a_release(self) -> None:
+        """low has three jobs, sleeps up to 120 and ends at 127 or 128; the job of 120 that is counted is 80 ticks old at the end."""
+        enders = STARVING.replace("thread low fifo 5 at 0\n    set 0\n    forever", "thread low fifo 5 at 0\n    set 0\n    loop 3")
+        file = STARVING_TOML.replace("[4, 17, 18]", "[4, 5]")
+        said = "measure 'low': in 2 of 2 runs its thread ended behind releases whose jobs are not done"
+        for words, counted, told in (("", ["4", "1", "1"], True), ("jobs = 3\n", ["3", "0", "0"], False), ("jobs = 4\n", ["4", "1", "1"], True)):
+            self.write(file + words, enders)
+            for _ in range(2):  # the second time of the rows that were kept
+                ended = self.sweep("--by", "work", "--columns", "low_jobs,low_late,low_open")
+                self.assertEqual([line.split()[3:] for line in ended.stdout.splitlines()[2:]], [counted, counted])
+                self.assertEqual(said in ended.stderr, told, ended.stderr)
+                self.assertNotIn("the late jobs are not done at the end", ended.stderr)
+        self.write(file, STARVING)
+        self.assertNotIn("its thread ended", self.sweep().stderr)
+
     def test_a_plot_of_response_times_has_the_deadline(self) -> None:
         self.write(STARVING_TOML + "percentiles = [90]\n", STARVING)
         sweep = read_sweep(self.folder / "two.toml")
