@@ -6,9 +6,9 @@ one ends the oldest that is open.
 """
 from __future__ import annotations
 
-from bisect import bisect_right
+from bisect import bisect_left, bisect_right
 from collections import deque
-from collections.abc import Iterable
+from collections.abc import Sequence
 from dataclasses import dataclass
 from fractions import Fraction
 
@@ -40,23 +40,31 @@ class Job:
 
 @dataclass(frozen=True, slots=True)
 class Jobs:
-    """The jobs of one measure, in the order of their releases, and the end of the run."""
+    """The jobs of one measure: those that are done, in the order of their releases, the end of the run, and the releases behind these.
 
-    jobs: list[Job]
+    A thread that is starved through a long run has more open jobs than anybody can list, so these are counted.
+    """
+
+    finished: list[Job]
     end: int
+    open: Sequence[int] = ()
+
+    @property
+    def jobs(self) -> list[Job]:
+        return [*self.finished, *(Job(release, None) for release in self.open)]
+
+    @property
+    def count(self) -> int:
+        return len(self.finished) + len(self.open)
 
     @property
     def responses(self) -> list[int]:
         """The response times of the jobs that are done, the least first."""
-        return sorted(job.response for job in self.jobs if job.done is not None)
-
-    @property
-    def open(self) -> list[Job]:
-        return [job for job in self.jobs if job.done is None]
+        return sorted(job.response for job in self.finished)
 
     def late(self, deadline: int) -> int:
         """How many jobs took longer than the deadline; one that is not done counts where it is older at the end."""
-        return sum((self.end if job.done is None else job.done) - job.release > deadline for job in self.jobs)
+        return sum(job.response > deadline for job in self.finished) + bisect_left(self.open, self.end - deadline)
 
     @property
     def mean(self) -> Fraction | None:
@@ -112,7 +120,7 @@ def periodic(seen: Seen, thread: str, period: int, phase: int, to: str, count: i
             raise NamesNothing(f"'{to}' at {time} ends a job before its release at {release}: the period, the phase or the line is another")
     if len(done) > len(releases):
         raise NamesNothing(f"'{to}' comes {len(done)} times for {len(releases)} jobs: the period, the phase or the line is another")
-    return Jobs([Job(release, done[k] if k < len(done) else None) for k, release in enumerate(releases)], seen.end)
+    return Jobs(list(map(Job, releases, done)), seen.end, releases[len(done):])
 
 
 def behind_a_lost_signal(seen: Seen, thread: str, period: int, phase: int, to: str) -> int | None:
@@ -153,15 +161,16 @@ def answered(seen: Seen, begin: str, to: str, thread: str | None) -> Jobs:
     else:
         begins = seen.lines(checked(seen, begin.split()))
     finishes = seen.lines(checked(seen, to.split()))
-    return Jobs(list(_matched(begins, finishes, single)), seen.end)
+    return Jobs(*_matched(begins, finishes, single, seen.end))
 
 
-def _matched(begins: list[tuple[int, int]], finishes: list[tuple[int, int]], single: bool) -> Iterable[Job]:
+def _matched(begins: list[tuple[int, int]], finishes: list[tuple[int, int]], single: bool, end: int) -> tuple[list[Job], int, list[int]]:
+    finished: list[Job] = []
     events = sorted([(line, time, True) for line, time in begins] + [(line, time, False) for line, time in finishes])
     waiting: deque[int] = deque()
     for _, time, is_begin in events:
         if is_begin and not (single and waiting):
             waiting.append(time)
         elif not is_begin and waiting:
-            yield Job(waiting.popleft(), time)
-    yield from (Job(time, None) for time in waiting)
+            finished.append(Job(waiting.popleft(), time))
+    return finished, end, list(waiting)

@@ -86,7 +86,7 @@ def job_figures(jobs: Jobs, words: Table) -> list[Figure]:
     """In the order of the columns. A periodic job's deadline is its period where none is named."""
     responses = jobs.responses
     deadline = words.get("deadline", words.get("period"))
-    return [len(jobs.jobs), min(responses, default=None), jobs.mean, *map(jobs.percentile, words.get("percentiles", ())),
+    return [jobs.count, min(responses, default=None), jobs.mean, *map(jobs.percentile, words.get("percentiles", ())),
             max(responses, default=None), jobs.jitter, *([] if deadline is None else [jobs.late(deadline)]), len(jobs.open)]
 
 

@@ -25,19 +25,19 @@ def ends_by(measure: Measure) -> str:
 def is_starved(seen: Seen, measure: Measure) -> bool:
     """Whether no job is done, and nothing tells that the thread that ends them has done its first one."""
     jobs = jobs_of(seen, measure.words)
-    if not jobs.jobs or len(jobs.open) < len(jobs.jobs):
+    if jobs.finished or not jobs.open:
         return False
     words = ends_by(measure).split()
     thread = str(measure.words["thread"]) if words[0] == "call" else "".join(words[1:2])
-    return in_its_first_job(seen, thread, jobs.jobs[0].release)
+    return in_its_first_job(seen, thread, jobs.open[0])
 
 
 def _none_done(seen: Seen, measure: Measure) -> str | None:
     jobs = jobs_of(seen, measure.words)
-    count, to = len(jobs.jobs), ends_by(measure)
+    count, to = jobs.count, ends_by(measure)
     if not count:
         raise NamesNothing(f"'{measure.words.get('from', 'a release')}' begins no job in this trace")
-    if len(jobs.open) < count:
+    if jobs.finished:
         return None
     if not is_starved(seen, measure):
         raise NamesNothing(f"of {count} jobs none is done, for '{to}' does not come behind the beginning of one")
@@ -62,8 +62,8 @@ def _ended(seen: Seen, measure: Measure) -> str | None:
     if not ends_behind_a_release(seen, measure.words):
         return None
     ended, jobs = seen.exited(str(measure.words["thread"])), jobs_of(seen, measure.words)
-    done = len(jobs.jobs) - len(jobs.open)
-    return (f"measure '{measure.name}': its thread ended at {ended}, and of {len(jobs.jobs)} jobs that were released up to there {done} are done; "
+    done = len(jobs.finished)
+    return (f"measure '{measure.name}': its thread ended at {ended}, and of {jobs.count} jobs that were released up to there {done} are done; "
             f"where it has no more, say jobs={done}")
 
 

@@ -169,7 +169,7 @@ class Analysis:
             try:
                 if task.period is not None:
                     jobs = periodic(seen, task.name, task.period, task.phase, words.get("to", SLEEP), words.get("jobs", task.jobs))
-                    row.seen = Jobs(jobs.jobs, jobs.end if (ended := seen.exited(task.name)) is None else ended)
+                    row.seen = Jobs(jobs.finished, jobs.end if (ended := seen.exited(task.name)) is None else ended, jobs.open)
                 elif words:
                     row.seen = jobs_of(seen, words)
                 elif task.why is None:
@@ -194,7 +194,7 @@ def rta_table(analysis: Analysis) -> Table:
         table.rows.append([
             task.name, row.verdict, str(task.priority), str(task.cost) if task.why is None else "", shown(task.period),
             str(row.blocking) if known else "", shown(row.deadline), row.told, shown(max(responses, default=None)),
-            str(len(row.seen.jobs)) if row.seen else "", late])
+            str(row.seen.count) if row.seen else "", late])
     return table
 
 

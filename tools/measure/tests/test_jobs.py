@@ -71,6 +71,13 @@ class JobsByHand(unittest.TestCase):
     def test_what_comes_at_the_first_release_does_not_end_it(self) -> None:
         self.assertEqual(periodic(seen(ENDED), "t", 9, 4, "return t gettime", 3).jobs, [Job(4, 13), Job(13, 22), Job(22, 36)])
 
+    def test_a_thread_that_is_starved_up_to_the_greatest_horizon(self) -> None:
+        """10^18 ticks have 10^17 releases each 10. The last one is 10 ticks old at the end, and that before it 20."""
+        trace = "0 start hog\n0 start low\n0 dispatch hog 9\n1000000000000000000 end\nthread hog ticks 1000000000000000000\nthread low ticks 0\n"
+        jobs = periodic(seen(trace), "low", 10, 0, "return low gettime", None)
+        self.assertEqual((jobs.count, len(jobs.open), jobs.responses), (10**17, 10**17, []))
+        self.assertEqual([jobs.late(deadline) for deadline in (9, 10, 19, 20, 10**18 - 1, 10**18)], [10**17, 10**17 - 1, 10**17 - 1, 10**17 - 2, 1, 0])
+
     def test_a_line_of_more_than_one_begin_in_a_row(self) -> None:
         """u gets the processor at 4, 13 and 22 and t ends a job at 13, 22 and 36: the oldest is ended first, and the last at 41 is open."""
         jobs = answered(seen(ENDED), "dispatch u", "return t gettime", None)

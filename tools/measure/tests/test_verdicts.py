@@ -35,7 +35,7 @@ class Verdicts(unittest.TestCase):
     def test_a_job_that_is_not_done_is_late_by_its_age(self) -> None:
         for deadline, wanted in ((99, "late"), (100, "not analysed")):
             given = row(None, deadline, None, why="it has a server")
-            given.seen = Jobs([Job(0, None)], 100)
+            given.seen = Jobs([], 100, [0])
             self.assertEqual(given.verdict, wanted)
 
     def test_a_job_of_a_thread_that_ended_is_as_old_as_it_was_there(self) -> None:
