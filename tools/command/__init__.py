@@ -43,6 +43,13 @@ class Words(argparse.ArgumentParser):
         return self.parse_intermixed_args(words)
 
 
+def number_of_ticks(word: str) -> int:
+    """A number as the program takes it: decimal digits, at most 10^18."""
+    if not (word.isascii() and word.isdigit()) or len(word) > 19 or int(word) > 10**18:
+        raise argparse.ArgumentTypeError(f"'{word}' is no number of ticks from 0 to 1000000000000000000")
+    return int(word)
+
+
 def tell(line: str) -> None:
     """Writes a line to standard error. Where that cannot be, the exit status alone tells what it does."""
     with contextlib.suppress(OSError):

@@ -5,9 +5,9 @@ import argparse
 import tomllib
 from pathlib import Path
 
-from command import Status, Usage, Words, carried_out, say, standard_input, write
+from command import Status, Usage, Words, carried_out, number_of_ticks, say, write
 from view.lines import NotATraceLine, read_trace
-from view.source import NoSource, detail_of
+from view.source import Given, NoSource, given
 
 from .jobs import NamesNothing
 from .measures import Measure, WrongMeasure, measure_of, measure_of_words, without_places
@@ -18,8 +18,10 @@ from .tables import as_csv, as_text, share, tables_of
 from .tasks import NoTask
 
 TOOL = "pse52-measure"
-HELP = """Measures one trace or one detail of pse52: jobs and their response times, threads, waits, priorities, servers.
-Without --script the trace comes on standard input.
+HELP = """Measures one run of pse52: jobs and their response times, threads, waits, priorities, servers.
+
+What is measured is FILE, or standard input: a trace, a detail, or a script. A script is run for as many ticks as --horizon says,
+or as its first line does, # horizon N. A trace alone does not tell what a thread waits for; a detail or a script does.
 
 --jobs has words KEY=VALUE, as a table [[measure]] of a sweep has them, for instance
   --jobs 'thread=logger period=40 to="return logger gettime" deadline=39'
@@ -29,20 +31,16 @@ A job of a periodic thread counts from its release, whether or not the thread wa
 
 def words_of(words: list[str]) -> argparse.Namespace:
     parser = Words(TOOL, HELP)
-    parser.add_argument("--script", type=Path, metavar="FILE", help="run this script, in place of a trace on standard input")
-    parser.add_argument("--horizon", type=int, metavar="N", help="for so many ticks; without it as a comment '# horizon N' on line 1 says")
+    parser.add_argument("file", nargs="?", type=Path, metavar="FILE")
+    parser.add_argument("--script", type=Path, metavar="FILE", help="a script to run, in place of FILE")
+    parser.add_argument("--horizon", type=number_of_ticks, metavar="N", help="run the script for so many ticks")
     parser.add_argument("--jobs", action="append", default=[], metavar="WORDS", help="measure jobs; it may come several times")
     parser.add_argument("--measures", type=Path, metavar="FILE", help="measure the jobs that the tables [[measure]] of this file say")
     parser.add_argument("--csv", action="store_true", help="write one CSV: table, of, what, figure, value")
     parser.add_argument("--rta", action="store_true", help="also the periodic tasks of the script, and the response times that are proved for them")
-    parser.add_argument("file", nargs="?", help=argparse.SUPPRESS)  # as pse52-view has it: it is told what to write
     said = parser.read(words)
-    if said.file is not None:
-        raise Usage(f"'{said.file}' stands alone: write --script {said.file} where it is a script, or < {said.file} where it is a trace")
-    if said.script is None and (said.horizon is not None or said.rta):
-        raise Usage("--horizon and --rta need --script FILE")
-    if said.horizon is not None and not 0 <= said.horizon <= 10**18:
-        raise Usage("--horizon is a number from 0 to 1000000000000000000")
+    if said.script is not None and said.file is not None:
+        raise Usage("--script FILE stands in place of FILE")
     return said
 
 
@@ -58,19 +56,20 @@ def measures_of(said: argparse.Namespace) -> list[Measure]:
     return measures
 
 
-def seen_of(said: argparse.Namespace) -> Seen:
-    """The trace or detail that is measured."""
-    if said.script is None:
-        return Seen(read_trace(standard_input(TOOL, "a trace is")))
-    return Seen(read_trace(detail_of(said.script.read_bytes(), said.horizon, TOOL)))
+def taken(said: argparse.Namespace) -> Given:
+    """What is measured."""
+    found = given(said.script or said.file, said.script is not None, said.horizon, TOOL)
+    if said.rta and found.script is None:
+        raise Usage("--rta is for a script, and this is none")
+    return found
 
 
-def check(seen: Seen, measures: list[Measure]) -> list[str]:
+def check(seen: Seen, measures: list[Measure], is_run: bool) -> list[str]:
     """What must be said beside the figures. Raises NamesNothing where a measure names what never comes."""
     notes = notes_of(seen, measures)
-    if not seen.is_detail:
+    if not (seen.is_detail or is_run):
         notes.append("a trace does not tell what a thread waits for, nor at which priority it runs on; "
-                     "with --script FILE, or of a detail, that is measured too")
+                     "of the script, or of a detail, that is measured too")
     return notes
 
 
@@ -83,13 +82,14 @@ def heading(seen: Seen) -> str:
 def measured(said: argparse.Namespace) -> str:
     """The text that is written."""
     measures = measures_of(said)
-    seen = seen_of(said)
-    for note in check(seen, measures):
+    lines, script = taken(said)
+    seen = Seen(read_trace(lines))
+    for note in check(seen, measures, script is not None):
         say(TOOL, note)
     tables = list(tables_of(seen, measures))
-    if not said.rta:
+    if not said.rta or script is None:
         return as_csv(tables) if said.csv else heading(seen) + as_text(tables)
-    analysis = Analysis(said.script.read_bytes(), {str(m.words["thread"]): m.words["deadline"] for m in measures if {"thread", "deadline"} <= set(m.words)})
+    analysis = Analysis(script, {str(m.words["thread"]): m.words["deadline"] for m in measures if {"thread", "deadline"} <= set(m.words)})
     analysis.prove()
     analysis.look(seen, measures)
     for note in analysis.notes:

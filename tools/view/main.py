@@ -10,14 +10,14 @@ from collections.abc import Callable
 from importlib import import_module
 from pathlib import Path
 
-from command import Status, Usage, Words, carried_out, say, standard_input, write
+from command import Status, Usage, Words, carried_out, number_of_ticks, say, write
 from measure.jobs import NamesNothing
 from measure.measures import WrongMeasure, measure_of_words
 
 from .lines import NotATraceLine, Trace, read_trace
 from .progress import Progress
 from .releases import mark_jobs
-from .source import GREATEST_SCRIPT, NoSource, detail_of
+from .source import NoSource, given
 from .seen import timeline_of
 from .timeline import Timeline
 from .window import NoWindow, window
@@ -39,12 +39,6 @@ What is drawn is FILE, or standard input: a trace, a detail, or a script. A scri
 or as its first line does, # horizon N. A trace alone does not tell why a thread does not run; a detail or a script does."""
 
 
-def _number(word: str) -> int:
-    if not (word.isascii() and word.isdigit()) or len(word) > 19 or int(word) > 10**18:
-        raise argparse.ArgumentTypeError(f"'{word}' is no number of ticks from 0 to 1000000000000000000")
-    return int(word)
-
-
 def _width(word: str) -> int:
     if not (word.isascii() and word.isdigit()) or not 1 <= len(word) <= 5 or int(word) < 1:
         raise argparse.ArgumentTypeError(f"'{word}' is no width from 1 to 99999")
@@ -63,9 +57,9 @@ def command_of(words: list[str]) -> argparse.Namespace:
     parser.add_argument("format", choices=FORMATS, metavar="FORMAT")
     parser.add_argument("file", nargs="?", type=Path, metavar="FILE")
     parser.add_argument("--script", type=Path, metavar="FILE", help="a script to run, in place of FILE")
-    parser.add_argument("--horizon", type=_number, metavar="N", help="run the script for so many ticks")
-    parser.add_argument("--from", dest="start", type=_number, metavar="N", help="begin the picture at this tick")
-    parser.add_argument("--to", dest="end", type=_number, metavar="N", help="end it at this one")
+    parser.add_argument("--horizon", type=number_of_ticks, metavar="N", help="run the script for so many ticks")
+    parser.add_argument("--from", dest="start", type=number_of_ticks, metavar="N", help="begin the picture at this tick")
+    parser.add_argument("--to", dest="end", type=number_of_ticks, metavar="N", help="end it at this one")
     parser.add_argument("--threads", type=lambda word: word.split(","), metavar="A,B", help="only these threads, in this order")
     parser.add_argument("--title", metavar="TEXT", help="a title; without it the name of the script")
     parser.add_argument("--tick", type=_tick, metavar="1us", help="how long a tick is; without it 1 us for ftrace and trace.dat, 1 ns for vcd and perfetto")
@@ -98,16 +92,8 @@ def terminal_width(name: str, width: int | None) -> int | None:
 def traced(said: argparse.Namespace, progress: Progress) -> tuple[Trace, str]:
     """What is drawn, and its title where it has one: a script is run for its detail."""
     path = said.script or said.file
-    if path == Path("-"):
-        path = None
-    source = path.open("rb") if path else standard_input(TOOL, "a trace or a script is")
-    first = source.peek(1)[:1]
-    if said.script is None and (not first or first.isdigit() or first == b"r"):
-        if said.horizon is not None and first:
-            raise Usage("--horizon is for a script, and this is none")
-        return read_trace(source, progress.lines), ""
-    progress.say("running the script")
-    return read_trace(detail_of(source.read(GREATEST_SCRIPT + 1), said.horizon, TOOL), progress.lines), path.stem if path else ""
+    found = given(path, said.script is not None, said.horizon, TOOL, lambda: progress.say("running the script"))
+    return read_trace(found.lines, progress.lines), path.stem if found.script is not None and path and path != Path("-") else ""
 
 
 def picture(said: argparse.Namespace, progress: Progress) -> str | bytes:

@@ -6,9 +6,11 @@ import re
 import shlex
 import subprocess
 import sys
+from collections.abc import Callable, Iterable
 from pathlib import Path
+from typing import NamedTuple
 
-from command import Usage, tell
+from command import Usage, standard_input, tell
 
 TOP = Path(__file__).resolve().parents[2]
 REFERENCE = TOP / "tools" / "reference" / "simulate.py"
@@ -25,6 +27,13 @@ _TOLD: set[str] = set()
 
 class NoSource(Exception):
     """Why there is no detail of a script."""
+
+
+class Given(NamedTuple):
+    """What a command was given: the lines of a trace or of a detail, and the script that was run for them, where it was one."""
+
+    lines: Iterable[bytes]
+    script: bytes | None
 
 
 def horizon_of(script: bytes) -> int | None:
@@ -95,3 +104,20 @@ def detail_of(script: bytes, horizon: int | None, tool: str) -> list[bytes]:
     if horizon is None:
         raise Usage("--horizon N says for how many ticks the script is run")
     return answer(["detail", str(horizon)], script, REFERENCE, tool).splitlines(keepends=True)
+
+
+def given(path: Path | None, is_script: bool, horizon: int | None, tool: str, running: Callable[[], None] = lambda: None) -> Given:
+    """A trace, a detail or a script: that of a file, or of standard input where it is None or `-`. A script is run for its detail,
+    once `running` has heard of it. What its first byte does not tell to be a script is one where `is_script` says so.
+
+    Raises Usage, NoSource and OSError.
+    """
+    source = path.open("rb") if path and path != Path("-") else standard_input(tool, "a script is" if is_script else "a trace or a script is")
+    first = source.peek(1)[:1]
+    if not is_script and (not first or first.isdigit() or first == b"r"):
+        if horizon is not None and first:
+            raise Usage("--horizon is for a script, and this is none")
+        return Given(source, None)
+    running()
+    script = source.read(GREATEST_SCRIPT + 1)
+    return Given(detail_of(script, horizon, tool), script)

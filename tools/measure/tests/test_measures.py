@@ -1,13 +1,10 @@
 """The measures against worked traces, with figures read off them by hand."""
 from __future__ import annotations
 
-import io
 import unittest
 from pathlib import Path
-from unittest import mock
 
 from measure.jobs import NamesNothing
-from measure.main import main
 from measure.measures import WrongMeasure, jobs_of, lost_signal, measure_of, measure_of_words, never_done, without_places
 from measure.seen import Seen
 from view.lines import Trace, read_trace
@@ -245,11 +242,6 @@ class Measures(unittest.TestCase):
                      lambda: measure_of_words('thread=t period=5 to="return t')):
             with self.assertRaises(WrongMeasure):
                 said()
-
-    def test_a_file_alone_is_told_where_it_goes(self) -> None:
-        with mock.patch("sys.stderr", io.StringIO()) as told:
-            self.assertEqual(main(["s.task", "--csv"]), 1)
-        self.assertIn("--script s.task", told.getvalue())
 
     def test_tables_that_say_no_measure(self) -> None:
         for table in ({}, {"name": "a b"}, {"name": "a"}, {"name": "a", "kind": "speed"}, {"name": "a", "kind": "ticks"},

@@ -141,7 +141,7 @@ class Command(unittest.TestCase):
             self.assertNotIn(b"Traceback", ended.stderr)
 
     def test_a_terminal_that_is_read_is_told(self) -> None:
-        for tool, words, what in (("view", ["text"], "a trace or a script"), ("measure", [], "a trace"),
+        for tool, words, what in (("view", ["text"], "a trace or a script"), ("measure", [], "a trace or a script"),
                                   ("from-ftrace", [str(TOP / "tools/ftrace/tests/server.map")], "the text of ftrace")):
             ours, theirs = pty.openpty()
             with open(theirs, "r+b", buffering=0) as terminal:
