@@ -5,11 +5,17 @@
     python3 tools/reference/simulate.py detail N [--stage STAGE] [--check] < script
     python3 tools/reference/simulate.py upgrade < script
 
-Exit status: 0 Done, 1 Usage, 2 Refused, 3 TooLong.
+Exit status: 0 Done, 1 Usage, 2 Refused, 3 TooLong, 4 ReadFault, 5 WriteFault; 70 where Python is older than 3.11.
 """
 from __future__ import annotations
 
 import sys
+
+if sys.version_info < (3, 11):
+    sys.stderr.write("simulate.py: Python 3.11 or later is needed, and this is %d.%d\n" % sys.version_info[:2])
+    sys.exit(70)
+
+import signal
 from dataclasses import replace
 from enum import IntEnum
 from typing import Callable
@@ -29,6 +35,8 @@ class Status(IntEnum):
     USAGE = 1
     REFUSED = 2
     TOO_LONG = 3
+    READ_FAULT = 4
+    WRITE_FAULT = 5
 
 
 def run(script: Script, horizon: int, checked: bool = False) -> str:
@@ -92,10 +100,30 @@ def main(words: list[str]) -> Status:
               "with show N, detail N or upgrade as well", file=sys.stderr)
     else:
         word, number = command
-        status, text = answer(sys.stdin.buffer.read(GREATEST_TEXT + 1), number, stage, checked, word)
-    sys.stdout.buffer.write(text)
-    return status
+        try:
+            source = read_source()
+        except OSError:
+            return Status.READ_FAULT
+        status, text = answer(source, number, stage, checked, word)
+    return status if written(text) else Status.WRITE_FAULT
+
+
+def read_source() -> bytes:
+    """The text on standard input, as much of it as tells whether it is too long. Raises OSError, where it is closed too."""
+    with open(0, "rb", closefd=False) as source:
+        return source.read(GREATEST_TEXT + 1)
+
+
+def written(text: bytes) -> bool:
+    """Writes to standard output, and tells whether that could be."""
+    try:
+        with open(1, "wb", closefd=False) as sink:
+            sink.write(text)
+    except OSError:
+        return False
+    return True
 
 
 if __name__ == "__main__":
+    signal.signal(signal.SIGINT, signal.SIG_DFL)
     sys.exit(main(sys.argv[1:]))
