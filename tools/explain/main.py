@@ -31,7 +31,7 @@ def main(words: list[str]) -> int:
         with standard_input() if words[0] == "-" else open(words[0], "rb") as source:
             text = source.read(GREATEST_TEXT + 1)
     except OSError as error:
-        say(TOOL, f"{words[0]}: {error.strerror}")
+        say(TOOL, f"{'standard input' if words[0] == '-' else words[0]}: {error.strerror}")
         return 4
     if len(text) > GREATEST_TEXT:
         return write(TOOL, f"{words[0]}:1:1: {TOO_LONG}" if in_lines else TOO_LONG) or 3

@@ -234,7 +234,8 @@ explain_command() {
         if [ "$word" = --lines ]; then lines=$word; else set -- "$@" "$word"; fi
     done
     [ "$#" -le 1 ] || refuse 'explain takes one script; write: pse52 explain SCRIPT'
-    if ! python3 -c 'import sys; sys.exit(sys.version_info < (3, 11))' 2>/dev/null; then
+    # Python does not start where its standard input is a folder.
+    if ! python3 -c 'import sys; sys.exit(sys.version_info < (3, 11))' </dev/null 2>/dev/null; then
         say 'explain needs Python 3.11 or later (python3)'
         exit 70
     fi
@@ -242,5 +243,7 @@ explain_command() {
     if [ -z "$input" ] && [ -t 0 ] && [ -t 2 ]; then
         say "the script is read from this terminal, up to Ctrl-D at a line's beginning; or name a file: pse52 explain FILE"
     fi
-    exec python3 "$top/tools/explain/main.py" ${lines:+"$lines"} "${input:--}"
+    [ -z "$input" ] || exec python3 "$top/tools/explain/main.py" ${lines:+"$lines"} "$input" </dev/null
+    [ ! -d /dev/stdin ] || { say 'standard input is a folder, and no text'; exit 4; }
+    exec python3 "$top/tools/explain/main.py" ${lines:+"$lines"} -
 }
