@@ -9,6 +9,7 @@ import sys
 from collections.abc import Callable, Mapping
 from enum import IntEnum
 from pathlib import Path
+from typing import NoReturn, TextIO
 
 if sys.stderr is None:  # it was closed, and what asks or writes there finds a stream all the same
     sys.stderr = open(os.devnull, "w", encoding="utf-8")
@@ -39,6 +40,13 @@ class Words(argparse.ArgumentParser):
     def error(self, message: str) -> None:
         raise Usage(message)
 
+    def _print_message(self, message: str, file: object = None) -> None:
+        """Help and the version: where they are not written the status tells it, as that of any other output."""
+        self._written = write(self.prog, message)
+
+    def exit(self, status: int = 0, message: str | None = None) -> NoReturn:
+        raise SystemExit(self._written)
+
     def read(self, words: list[str]) -> argparse.Namespace:
         return self.parse_intermixed_args(words)
 
@@ -50,10 +58,18 @@ def number_of_ticks(word: str) -> int:
     return int(word)
 
 
-def tell(line: str) -> None:
+def tell(line: str, end: str = "\n") -> None:
     """Writes a line to standard error. Where that cannot be, the exit status alone tells what it does."""
-    with contextlib.suppress(OSError):
-        print(line, file=sys.stderr, flush=True)
+    try:
+        print(line, end=end, file=sys.stderr, flush=True)
+    except OSError:
+        _forget(sys.stderr)
+
+
+def _forget(stream: TextIO) -> None:
+    """What is left in the stream must not be written, and complained about, at the end of the process."""
+    with contextlib.suppress(OSError, ValueError):
+        os.dup2(os.open(os.devnull, os.O_WRONLY), stream.fileno())
 
 
 def say(tool: str, text: str) -> None:
@@ -76,8 +92,8 @@ def carried_out(tool: str, work: Callable[[], int], statuses: Mapping[type[Excep
     """Does the work of a command. Of an exception it is said what is wrong; `statuses` has what is returned then."""
     try:
         return work()
-    except SystemExit as ended:  # --help and --version
-        return Status.DONE if ended.code == 0 else Status.USAGE
+    except SystemExit as ended:  # --help and --version, written or not
+        return Status(ended.code)
     except KeyboardInterrupt:
         return end_by(signal.SIGINT)
     except Usage as wrong:
@@ -116,7 +132,6 @@ def write(tool: str, text: str | bytes) -> Status:
         if not isinstance(error, BrokenPipeError):
             say(tool, f"the output was not written: {error.strerror}")
         if sys.stdout is not None:
-            # What is left in the buffer must not be written, and complained about, at the end of the process.
-            os.dup2(os.open(os.devnull, os.O_WRONLY), sys.stdout.fileno())
+            _forget(sys.stdout)
         return Status.WRITE_FAULT
     return Status.DONE

@@ -12,7 +12,7 @@ import time
 from enum import IntEnum
 from pathlib import Path
 
-from command import Usage, Words, told
+from command import Usage, Words, say, tell, told, write
 from measure.measures import Measure
 
 from .engine import NoEngine, Work, results
@@ -22,6 +22,7 @@ from .plot import NoPlot, draw, gnuplot
 from .table import Kept, read_table, table
 from .unfinished import Ended, behind_an_end, hidden, measured, none_done, nothing_done
 
+TOOL = "pse52-sweep"
 TOP = Path(__file__).resolve().parents[2]
 
 
@@ -48,7 +49,7 @@ def count_of(word: str) -> int:
 
 
 def words_of(words: list[str]) -> argparse.Namespace:
-    parser = Words("pse52-sweep", "Runs one script with many values, and writes a table SWEEP.csv with a line for each run.")
+    parser = Words(TOOL, "Runs one script with many values, and writes a table SWEEP.csv with a line for each run.")
     parser.add_argument("sweep", type=Path, metavar="SWEEP.toml")
     parser.add_argument("--jobs", type=count_of, default=os.cpu_count() or 1, metavar="N", help="runs at once, on each machine")
     parser.add_argument("--sshlogin", metavar="HOSTS", help="machines, as GNU parallel takes them; ':' is this one")
@@ -95,16 +96,16 @@ class Progress:
         self._tenth = 10 * done // max(1, count)
         self._terminal = sys.stderr.isatty()
         if done:
-            print(f"{done} of {count} runs were done before", file=sys.stderr)
+            tell(f"{done} of {count} runs were done before")
 
     def now(self, done: int) -> None:
         """So many runs are done by now."""
         time_now, tenth, last = time.monotonic(), 10 * done // self._count, done == self._count
         if self._terminal and (time_now - self._shown > 0.2 or last):
             self._shown = time_now
-            print(f"\r\033[K{self._told(done, time_now)}", end="\n" if last else "", file=sys.stderr, flush=True)
+            tell(f"\r\033[K{self._told(done, time_now)}", end="\n" if last else "")
         elif not self._terminal and tenth > self._tenth:
-            print(self._told(done, time_now), file=sys.stderr, flush=True)
+            tell(self._told(done, time_now))
         self._tenth = tenth
 
     def _told(self, done: int, now: float) -> str:
@@ -136,7 +137,7 @@ def carry_out(sweep: Sweep, said: argparse.Namespace, program: list[str]) -> tup
     path.write_text(table(sweep.columns, kept.rows))
     again = sum(not sweep.lasts(row) for row in kept.rows.values())
     if again:
-        print(f"pse52-sweep: runs that something ended from outside, as their rows say: {again}; the same words do them again", file=sys.stderr)
+        say(TOOL, f"runs that something ended from outside, as their rows say: {again}; the same words do them again")
     return path, kept.ended
 
 
@@ -167,7 +168,12 @@ def refusals(rows: list[dict[str, str]]) -> str | None:
     return f"{len(faults)} of {len(rows)} runs have no trace; the first says: {faults[0]}" if faults else None
 
 
-def carried_out(said: argparse.Namespace) -> None:
+def put(text: str) -> bool:
+    """Writes to standard output. Where that fails it is told, and the sweep goes on: its table and its picture are files."""
+    return not write(TOOL, text)
+
+
+def carried_out(said: argparse.Namespace) -> Status:
     """The whole sweep: its runs, its table, and what is printed and drawn of it."""
     sweep = read_sweep(said.sweep)
     over = over_of(sweep, said.over)
@@ -183,45 +189,45 @@ def carried_out(said: argparse.Namespace) -> None:
             raise WrongSweep(f"no column has the name '{said.plot}'; there are {', '.join(sweep.columns)}")
         gnuplot()
     for warning in filter(None, (measure.warning for measure in sweep.measures)):
-        print(f"pse52-sweep: {warning}", file=sys.stderr)
+        say(TOOL, warning)
     program = program_of(said.program)
     path, ended = carry_out(sweep, said, program)
     rows = read_table(path)
-    print(path)
+    written = put(f"{path}\n")
     if by:
-        print(lined_up(grouped(rows, by, sweep.measures, columns)), end="")
+        written = written and put(lined_up(grouped(rows, by, sweep.measures, columns)))
     if refused := refusals(rows):
-        print(f"pse52-sweep: {refused}", file=sys.stderr)
+        say(TOOL, refused)
     undone = list(none_done(sweep, rows, program))
     for note in [*hidden(sweep, rows, ended), *behind_an_end(sweep, rows, ended), *(nothing_done(measure) for measure, starved in undone if starved)]:
-        print(f"pse52-sweep: {note}", file=sys.stderr)
+        say(TOOL, note)
     if wrong := complaints(rows, [measure for measure, starved in undone if not starved]):
         raise NamedNothing("; ".join(wrong))
     if said.plot is not None:
         picture = sweep.beside(said.output, f"-{said.plot}.svg")
         draw(rows, said.plot, over, picture, sweep.deadline_of(said.plot))
-        print(picture)
+        written = written and put(f"{picture}\n")
+    return Status.DONE if written else Status.REFUSED
 
 
 def main(words: list[str]) -> Status:
     try:
         said = words_of(words)
     except SystemExit as ended:
-        return Status.DONE if ended.code == 0 else Status.USAGE
+        return Status.REFUSED if ended.code else Status.DONE
     except Usage as wrong:
-        print(f"pse52-sweep: {wrong}; --help tells all", file=sys.stderr)
+        say(TOOL, f"{wrong}; --help tells all")
         return Status.USAGE
     for number in (signal.SIGTERM, signal.SIGHUP):
         signal.signal(number, signal.default_int_handler)
     try:
-        carried_out(said)
+        return carried_out(said)
     except (WrongSweep, NamedNothing, OSError) as wrong:
-        print(f"pse52-sweep: {told(wrong)}", file=sys.stderr)
+        say(TOOL, told(wrong))
         return Status.REFUSED
     except (NoEngine, NoProgram, NoPlot) as missing:
-        print(f"pse52-sweep: {missing}", file=sys.stderr)
+        say(TOOL, str(missing))
         return Status.MISSING
     except KeyboardInterrupt:
-        print("\npse52-sweep: interrupted; the same words go on from here", file=sys.stderr)
+        tell(f"\n{TOOL}: interrupted; the same words go on from here")
         return Status.INTERRUPTED
-    return Status.DONE
