@@ -21,11 +21,11 @@ class Words(unittest.TestCase):
     """The command, without a kernel."""
 
     def test_the_version_needs_no_root(self) -> None:
-        with mock.patch.object(main, "why_not", lambda: "it is not allowed"), mock.patch("sys.stdout", io.StringIO()) as told, \
+        with mock.patch.object(main, "why_not", lambda: "it is not allowed"), mock.patch("sys.stdout", io.TextIOWrapper(io.BytesIO())) as told, \
                 mock.patch("sys.stderr", io.StringIO()):
             self.assertEqual(main.main(["--version"]), 0)
             self.assertEqual(main.main(["s.task", "20"]), 4)
-        self.assertTrue(told.getvalue().startswith("pse52-live "))
+        self.assertTrue(told.buffer.getvalue().startswith(b"pse52-live "))
 
     def test_a_trace_that_cannot_be_written_is_reported_all_the_same(self) -> None:
         result = mock.Mock()
