@@ -235,6 +235,8 @@ def measure_of_words(said: str) -> Measure:
         if not equals:
             raise WrongMeasure(f"--jobs has words KEY=VALUE, and '{word}' is none")
         table[key] = int(value) if value.isascii() and value.isdigit() else value
+    if not {"period", "from", "kind"} & set(table):
+        raise WrongMeasure(f"--jobs needs period= of a periodic thread, or from= and to= of what begins and ends a job, and '{said}' has neither")
     table.setdefault("kind", "periodic" if "period" in table else "response")
     table.setdefault("name", table.get("thread", "jobs"))
     return without_places(measure_of(table))

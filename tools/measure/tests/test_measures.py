@@ -243,6 +243,11 @@ class Measures(unittest.TestCase):
             with self.assertRaises(WrongMeasure):
                 said()
 
+    def test_words_without_a_beginning(self) -> None:
+        for said in ("thread=low", 'to="return t gettime"', ""):
+            with self.assertRaisesRegex(WrongMeasure, "needs period= of a periodic thread, or from=", msg=said):
+                measure_of_words(said)
+
     def test_tables_that_say_no_measure(self) -> None:
         for table in ({}, {"name": "a b"}, {"name": "a"}, {"name": "a", "kind": "speed"}, {"name": "a", "kind": "ticks"},
                       {"name": "a", "kind": "ticks", "thread": 5}, {"name": "a", "kind": "ticks", "thread": "t", "deadline": 1},
