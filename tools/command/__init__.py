@@ -66,6 +66,11 @@ def tell(line: str, end: str = "\n") -> None:
         _forget(sys.stderr)
 
 
+def overwrites() -> bool:
+    """Whether standard error is a terminal on which a line can be written over."""
+    return sys.stderr.isatty() and os.environ.get("TERM", "dumb") != "dumb"
+
+
 def _forget(stream: TextIO) -> None:
     """What is left in the stream must not be written, and complained about, at the end of the process."""
     with contextlib.suppress(OSError, ValueError):

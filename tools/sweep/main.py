@@ -12,7 +12,7 @@ import time
 from enum import IntEnum
 from pathlib import Path
 
-from command import Usage, Words, say, tell, told, write
+from command import Usage, Words, overwrites, say, tell, told, write
 from measure.measures import Measure
 
 from .engine import NoEngine, Work, results
@@ -94,7 +94,7 @@ class Progress:
         self._began = time.monotonic()
         self._shown = 0.0
         self._tenth = 10 * done // max(1, count)
-        self._terminal = sys.stderr.isatty()
+        self._terminal = overwrites()
         if done:
             tell(f"{done} of {count} runs were done before")
 

@@ -5,12 +5,14 @@ import os
 import stat
 import sys
 
+from command import overwrites
+
 
 class Progress:
-    """Says how many lines are read, and what is done then. Silent where standard error is no terminal."""
+    """Says how many lines are read, and what is done then. Silent where standard error is no terminal that takes a line back."""
 
     def __init__(self) -> None:
-        self._on = sys.stderr.isatty()
+        self._on = overwrites()
         self._size = _size_of_input()
         self._shown = False
 

@@ -152,6 +152,17 @@ class Command(unittest.TestCase):
             os.close(ours)
             self.assertIn(f"pse52-{tool}: {what} is read from this terminal, up to Ctrl-D", said)
 
+    def test_progress_is_told_where_a_line_can_be_written_over(self) -> None:
+        for term, is_told in (("xterm", True), ("dumb", False)):
+            ours, theirs = pty.openpty()
+            with open(theirs, "r+b", buffering=0) as terminal:
+                subprocess.run([sys.executable, str(VIEW), "text", str(TOP / "examples" / "06_protect.trace")], stdout=subprocess.DEVNULL,
+                               stderr=terminal, env=dict(os.environ, TERM=term), check=True)
+                said = os.read(ours, 4096) if select.select([ours], [], [], 1)[0] else b""
+            os.close(ours)
+            self.assertEqual(b"\x1b[K" in said, is_told, term)
+            self.assertEqual(bool(said), is_told, term)
+
     def test_without_standard_error_the_status_tells(self) -> None:
         script = TOP / "examples" / "06_protect.task"
         for where in ("2>&-", "2>/dev/full"):
