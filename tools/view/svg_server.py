@@ -70,24 +70,27 @@ def _points(piece: Capacity, axis: Axis) -> list[tuple[float, int]]:
 def _draw_plans(out: Writer, thread: ThreadLine, axis: Axis, top: float, base: float, start: int, end: int) -> None:
     """Each plan and refill as a ring, with an arrow between; plans that stand in one place have one arrow.
 
-    The amount stands at the refill. Of one that is due behind the picture it stands at the plan, with the due tick.
+    The amount stands at the refill. Of one that is due behind the picture it stands at the plan, with the due tick. Those
+    from before the picture come in at its edge, each with an arrow of its own.
     """
     few = len(thread.plans) * LEAST_APART <= axis.right - axis.left
     free, label_free = -99.0, -99.0
     labels: list[tuple[float, str]] = []
     for planned in thread.plans:
         x = axis.at(max(planned.time, start))
-        if x < free:
-            continue
-        free = x + (3 if few else FAR_APART)
+        if planned.time >= start:
+            if x < free:
+                continue
+            free = x + (3 if few else FAR_APART)
         title = _title(thread.name, planned)
-        beyond = planned.due > end
-        target = axis.right if beyond else axis.at(max(planned.due, planned.time))
+        beyond, reached = planned.due > end, max(planned.due, planned.time)
+        target = axis.right if beyond else axis.at(max(reached, start))
         _arrow(out, x, target, top, base, title)
         if planned.time >= start:
             draw_mark(out, MarkKind.PLAN, x, base, 3.2, title)
         amount = f"+{short_number(planned.amount)}"
-        labels.append((x + 5, f"{amount} due {short_number(planned.due)}") if beyond else (target - len(amount) * 2.4, amount))
+        if beyond or reached >= start:
+            labels.append((x + 5, f"{amount} due {short_number(planned.due)}") if beyond else (target - len(amount) * 2.4, amount))
     for place, text in sorted(labels):
         width = len(text) * 4.9
         place = min(place, axis.right + 30 - width)

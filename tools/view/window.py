@@ -43,7 +43,7 @@ def _thread(thread: ThreadLine, first: int, last: int) -> ThreadLine:
         spans=[_clipped(span, first, last) for span in thread.spans if span.end > first and span.start < last],
         runs=[(max(a, first), min(b, last)) for a, b in thread.runs if b > first and a < last],
         marks=[mark for mark in thread.marks if first <= mark.time <= last],
-        plans=[plan for plan in thread.plans if plan.time <= last and (plan.refilled is None or plan.refilled >= first)],
+        plans=[plan for plan in thread.plans if plan.time <= last and max(plan.due, plan.refilled or 0) >= first],
         capacity=[_piece(piece, first, last) for piece in thread.capacity if piece.end > first and piece.start < last])
 
 

@@ -1,10 +1,12 @@
 """Parts of a run, with what stands in them worked out by hand."""
 from __future__ import annotations
 
+import re
 import unittest
 from dataclasses import astuple
 
 from view.lines import read_trace
+from view.main import drawer
 from view.seen import timeline_of
 from view.timeline import MarkKind, Timeline
 from view.window import NoWindow, window
@@ -45,6 +47,25 @@ MUTEX = b"mutex m none\nthread a fifo 9 at 4\nlock m\nrun 2\nunlock m\nend\nthre
 KILLED = b"0 start a\n0 dispatch a 5\n5 return a kill 0 0\n5 killed rt1\n5 end\nthread a ticks 5\n"
 
 
+# s plans 2 ticks for 20 and 1 for 25, and ends before either is due.
+TWO_PLANS = """\
+0 start s
+0 activate s 3
+0 dispatch s 9
+2 plan s 2 20
+2 idle
+5 return s nanosleep 0 0
+5 activate s 1
+5 dispatch s 9
+6 exhaust s
+6 plan s 1 25
+7 exit s
+7 idle
+50 end
+thread s ticks 4
+"""
+
+
 def server() -> Timeline:
     return timeline_of(read_trace(SERVER.encode().splitlines(keepends=True)))
 
@@ -72,6 +93,18 @@ class Window(unittest.TestCase):
         """One was made at 3 and carried out at 20, and one at 23 is never."""
         for start, end, wanted in ((0, 2, []), (0, 3, [3]), (5, 8, [3]), (20, 22, [3]), (21, 22, []), (21, 23, [23]), (30, 40, [23]), (20, 23, [3, 23])):
             self.assertEqual([plan.time for plan in self.part(start, end).threads[0].plans], wanted, (start, end))
+
+    def test_plans_from_before_it_are_drawn_from_its_edge(self) -> None:
+        """Each has its own arrow and amount while it may still be due there, and none behind that; the edge is where the axis begins."""
+        whole = timeline_of(read_trace(TWO_PLANS.encode().splitlines(keepends=True)))
+        for start, dues in ((10, [20, 25]), (20, [25]), (22, [25]), (26, [])):
+            picture = drawer("svg")(window(whole, start, 50, None))
+            arrows = re.findall(r'd="M([\d.]+),[^>]*class="arrow"><title>[^<]* due at (\d+);', picture)
+            self.assertEqual([int(due) for _, due in arrows], dues, start)
+            edge = re.search(r'<line x1="([\d.]+)" y1="66" x2="[\d.]+" y2="66"', picture)[1]
+            self.assertEqual({x for x, _ in arrows}, {edge} if dues else set(), start)
+        for start, amounts in ((10, ["+2", "+1"]), (20, ["+2", "+1"]), (22, ["+1"]), (26, [])):
+            self.assertEqual(re.findall(r">(\+\d)</text>", drawer("svg")(window(whole, start, 50, None))), amounts, start)
 
     def test_marks_and_ends_at_the_edges(self) -> None:
         def marks(start: int, end: int, kind: MarkKind) -> list[int]:
