@@ -3,6 +3,7 @@ from __future__ import annotations
 
 from .facts import Facts
 from .lines import Trace
+from .servers import end_servers
 from .timeline import Span, State, Timeline
 from .told import tell
 from .tracks import HANDLERS, Builder
@@ -23,6 +24,7 @@ def timeline_of(trace: Trace) -> Timeline:
     seen = Timeline(builder.order(), builder.end, builder.idle, builder.killed, finished, trace, facts=facts)
     for thread in seen.threads:
         thread.runs = joined_runs(thread.spans)
+    end_servers(seen)
     if seen.is_detail:
         tell(seen)
     seen.wakes = wakes_of(trace, facts)

@@ -56,15 +56,15 @@ def tell(seen: Timeline) -> None:
     mutexes, cleanups = set(seen.facts.subjects("mutex")) | mutexes_waited_for(seen.facts), cleanup_names(seen.facts)
     for thread in seen.threads:
         told: list[Span] = []
-        highs = [(span.start, span.high) for span in thread.spans if span.state is State.RUNNING and span.high is not None]
+        highs = [(span.start, span.high) for span in thread.spans if span.state is State.RUNNING]
         starts = [start for start, _ in highs]
         for start, end, state, running, frame in stretches(seen.facts, thread.name, thread.runs, seen.end):
             span = Span(start, end, State.WAITING if state.is_blocked else State.RUNNING if running else State.READY, state.execution,
                         frame=frame, cleanup=frame in cleanups)
             if state.is_blocked:
                 span.call, span.what, span.until, span.kind = state.call, state.what, state.until, wait_kind(state, mutexes)
-            if running and highs:
-                span.high = highs[max(0, bisect_right(starts, start) - 1)][1]
+            if running:
+                span.high = highs[bisect_right(starts, start) - 1][1]
             if told and goes_on(told[-1], span):
                 told[-1].end = span.end
             else:

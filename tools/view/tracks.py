@@ -69,6 +69,18 @@ class Track:
                 self.high = False
 
 
+def carry_out(plans: list[Planned], at: int, refill: Refill) -> int:
+    """Notes when the plans from `at` on were carried out, and gives the first one that was not.
+
+    A strict server may join several plans in one refill: as many as its amount is the sum of.
+    """
+    left = refill.amount
+    while left > 0 and at < len(plans):
+        plans[at].refilled, left = refill.time, left - plans[at].amount
+        at += 1
+    return at
+
+
 class Builder:
     """Reads the events in order. Each kind has its own function."""
 
@@ -188,14 +200,9 @@ class Builder:
         return track.line.name in self.strict
 
     def refill(self, event: Refill) -> None:
-        """A strict server may join several plans in one refill: as many as its amount is the sum of."""
         track = self.mark(event, MarkKind.REFILL, f"+{event.amount}")
         track.set_capacity(event.time, event.capacity)
-        left = event.amount
-        while left > 0 and track.next_refill < len(track.line.plans):
-            plan = track.line.plans[track.next_refill]
-            plan.refilled, left = event.time, left - plan.amount
-            track.next_refill += 1
+        track.next_refill = carry_out(track.line.plans, track.next_refill, event)
 
     def ends(self, event: End) -> None:
         self.finish(event.time)
