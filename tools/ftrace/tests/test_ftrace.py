@@ -156,6 +156,17 @@ class Ftrace(unittest.TestCase):
         wrong = self.log.replace("pse52 exhaust server", "pse52 exhausted server")
         self.assertEqual(doubts_of(wrong, "tick 1000\ncpu 0\n"), ["2 lines of markers say nothing of a server, the first: pse52 exhausted server"])
 
+    def test_markers_that_break_off(self) -> None:
+        """A marker of one word or two, and of each word one that has a number too few or too many, are told; a whole one of each is not."""
+        good = {"activate s 3", "exhaust s", "plan s 2 9", "refill s 2 3", "cancel s", "totals s 1 2 3 4"}
+        wrong = ["", "exhaust", *(f"{said} 5" for said in sorted(good)), "activate s", "plan s 2", "refill s 2", "totals s 1 2 3"]
+
+        def told(markers: list[str]) -> list[str]:
+            return doubts_of(self.log + "".join(f"  x-1 [000] d..2. 101.0: print: tracing_mark_write: pse52 {said}\n" for said in markers), "tick 1000\ncpu 0\n")
+        self.assertEqual(told(sorted(good)), [])
+        for said in wrong:
+            self.assertEqual(told([said]), [f"one line of markers say nothing of a server, the first: {f'pse52 {said}'.strip()}"], said)
+
     def test_markers_of_another_processor(self) -> None:
         moved = self.log.replace("[000] d.h2.   100.015008: tracing_mark_write", "[001] d.h2.   100.015008: tracing_mark_write")
         self.assertEqual(doubts_of(moved, "tick 1000\ncpu 0\n"),
