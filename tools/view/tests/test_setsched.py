@@ -80,6 +80,17 @@ class Replaced(unittest.TestCase):
             self.assertEqual(highs(thread), [(0, 3, None), (6, 10, True), (10, 25, False), (25, 27, True)])
 
 
+class Many(unittest.TestCase):
+    def test_a_server_that_is_replaced_again_and_again(self) -> None:
+        """Each of 20,000 new servers has 5, and s runs for one tick of ten with it; c has the other nine."""
+        lines = ["0 start c", "0 start s", "0 activate s 5", "0 dispatch c 20"]
+        for at in range(10, 200_001, 10):
+            lines += [f"{at - 1} dispatch s 9", f"{at} dispatch c 20", f"{at + 1} return c setsched 0 0", f"{at + 1} activate s 5"]
+        thread = next(thread for thread in timeline_of_text("\n".join([*lines, "200009 end", ""])).threads if thread.name == "s")
+        self.assertEqual({high for _, _, high in highs(thread)}, {True})
+        self.assertEqual([thread.capacity_at(tick) for tick in (8, 9, 10, 11, 150_009, 150_010, 150_011)], [5, 5, 4, 5, 5, 4, 5])
+
+
 class Unchanged(unittest.TestCase):
     def test_a_setprio_lowers_a_server_that_stays(self) -> None:
         """c sets the high priority of s to 8 at 4, and its own policy at 5: s runs lower, and has its server still."""
