@@ -1,12 +1,17 @@
 """Jobs in a picture: a mark at each release, and one at each deadline that is missed."""
 from __future__ import annotations
 
-from measure.jobs import Job
+from itertools import islice
+
+from measure.jobs import Job, Jobs
 from measure.measures import Measure, jobs_of
 from measure.notes import ends_by, notes_of
 from measure.seen import Seen
 
 from .timeline import Mark, MarkKind, Timeline
+
+#: so many jobs that are not done are marked at most: a thread that is starved through a long run has more than any picture shows
+MOST_OPEN = 10_000
 
 
 def mark_jobs(seen: Timeline, measures: list[Measure]) -> list[str]:
@@ -23,10 +28,16 @@ def mark_jobs(seen: Timeline, measures: list[Measure]) -> list[str]:
         if thread is None:
             continue
         deadline = measure.words.get("deadline", measure.words.get("period"))
-        for number, job in enumerate(jobs.jobs):
+        for number, job in enumerate([*jobs.finished, *_first_open(jobs)]):
             thread.marks += _marks(number, job, deadline, jobs.end)
+        if len(jobs.open) > MOST_OPEN:
+            notes.append(f"measure '{measure.name}': of {len(jobs.open)} jobs that are not done the first {MOST_OPEN} are marked")
         thread.marks.sort(key=lambda mark: mark.time)
     return notes
+
+
+def _first_open(jobs: Jobs) -> list[Job]:
+    return [Job(release, None) for release in islice(jobs.open, MOST_OPEN)]
 
 
 def _marks(number: int, job: Job, deadline: int | None, end: int) -> list[Mark]:

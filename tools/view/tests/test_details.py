@@ -282,6 +282,14 @@ class Pictures(unittest.TestCase):
         with self.assertRaisesRegex(NamesNothing, "none is done, for 'return c yield'"):
             mark_jobs(seen, [measure_of_words('thread=c period=10 phase=10 to="return c yield"')])
 
+    def test_a_starved_thread_of_a_very_long_run(self) -> None:
+        """5 * 10^17 jobs of low are open at the end: the first 10,000 are marked, so that the last release is at 19,998, and the reader is told."""
+        seen = seen_of(b"0 start hog\n0 start low\n0 dispatch hog 9\n1000000000000000000 end\nthread hog ticks 1000000000000000000\nthread low ticks 0\n")
+        notes = mark_jobs(seen, [measure_of_words("thread=low period=2")])
+        released = [mark.time for mark in seen.threads[1].marks if mark.kind.value == "release"]
+        self.assertEqual((len(released), max(released)), (10_000, 19_998))
+        self.assertIn("measure 'low': of 500000000000000000 jobs that are not done the first 10000 are marked", notes)
+
     def test_jobs_that_end_by_a_line_without_a_thread(self) -> None:
         seen = seen_of(detail_of(b"thread a fifo 5 at 2\nrun 3\nend\n", 20))
         self.assertEqual(mark_jobs(seen, [measure_of_words('from="start a" to=idle')]), [])
