@@ -1,4 +1,4 @@
-"""Where runs are asked for: a worker for each pane of the page, and a limit on the time of each run."""
+"""Where runs are asked for: workers, which are as many as there are runs at a time, and a limit on the time of each run."""
 from __future__ import annotations
 
 import json
@@ -12,6 +12,8 @@ from pathlib import Path
 
 WORKER = Path(__file__).with_name("worker.py")
 PANES = ("a", "b", "export")
+MOST_RUNS = 4  # at a time; another one waits for its turn
+NEWER = "a newer run took its place; change something here to run this one again"
 
 
 class Stopped(Exception):
@@ -35,6 +37,10 @@ class Worker:
         self._process = subprocess.Popen([sys.executable, str(WORKER)], stdin=subprocess.PIPE, stdout=subprocess.PIPE, start_new_session=True)
         self._why = ""
         self._is_ready = False
+
+    @property
+    def is_stopped(self) -> bool:
+        return self._why != ""
 
     def stop(self, why: str) -> None:
         self._why = self._why or why
@@ -75,43 +81,59 @@ class Worker:
 
 
 class Desk:
-    """The workers. A pane has one run at a time: a newer one ends the one before."""
+    """The workers. A pane of a tab has one run at a time: a newer one, as of the page loaded again, ends the one before. A free worker serves
+    whichever pane asks next.
+    """
 
     def __init__(self, seconds: float) -> None:
         self._seconds = seconds
         self._guard = threading.Lock()
-        self._turn = {pane: threading.Lock() for pane in PANES}
-        self._ready: dict[str, Worker] = {}
-        self._busy: dict[str, Worker] = {}
+        self._places = threading.BoundedSemaphore(MOST_RUNS)
+        self._free: list[Worker] = []
+        self._busy: dict[tuple[str, str], Worker] = {}
 
-    def prepare(self, pane: str) -> None:
-        """Starts the worker of a pane before it is asked."""
-        with self._turn[pane]:
-            if pane not in self._ready:
-                self._ready[pane] = Worker()
+    def prepare(self) -> None:
+        """Starts a worker before one is asked."""
+        worker = Worker()
+        with self._guard:
+            self._free.append(worker)
 
-    def ask(self, pane: str, request: Request) -> bytes:
+    def ask(self, tab: str, pane: str, request: Request) -> bytes:
         """The answer, as JSON. Raises Stopped."""
         with self._guard:
-            if pane in self._busy:
-                self._busy[pane].stop("a newer run took its place, as of another tab; change something here to run this one again")
-        with self._turn[pane]:
-            worker = self._ready.pop(pane, None) or Worker()
-            with self._guard:
-                self._busy[pane] = worker
+            self._end_run((tab, pane))
+        with self._places:
+            worker = self._take((tab, pane))
             try:
                 text = worker.ask(request, self._seconds)
             except Stopped:
-                with self._guard:
-                    del self._busy[pane]
-                worker.close()
+                self._leave((tab, pane), worker, is_well=False)
                 raise
-            with self._guard:
-                del self._busy[pane]
-            self._ready[pane] = worker
+            self._leave((tab, pane), worker, is_well=True)
             return text
 
     def close(self) -> None:
         with self._guard:
-            for worker in [*self._busy.values(), *self._ready.values()]:
+            for worker in [*self._busy.values(), *self._free]:
                 worker.close()
+
+    def _end_run(self, place: tuple[str, str]) -> None:
+        if place in self._busy:
+            self._busy[place].stop(NEWER)
+
+    def _take(self, place: tuple[str, str]) -> Worker:
+        with self._guard:
+            self._end_run(place)
+            worker = self._free.pop() if self._free else Worker()
+            self._busy[place] = worker
+            return worker
+
+    def _leave(self, place: tuple[str, str], worker: Worker, is_well: bool) -> None:
+        """The run of a place is over. Its worker is free, or ends where it is of no more use."""
+        with self._guard:
+            if self._busy.get(place) is worker:
+                del self._busy[place]
+            if is_well and not worker.is_stopped:
+                self._free.append(worker)
+                return
+        worker.close()

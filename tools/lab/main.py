@@ -86,8 +86,8 @@ def served(words: list[str]) -> int:
     try:
         if write(TOOL, f"{lab.address}{fragment}\n") != Status.DONE:
             return Status.WRITE_FAULT
-        for pane in ("a", "b"):
-            threading.Thread(target=desk.prepare, args=[pane], daemon=True).start()
+        for _ in ("a", "b"):
+            threading.Thread(target=desk.prepare, daemon=True).start()
         if said.open:
             webbrowser.open(lab.address + fragment)
         lab.serve_forever()

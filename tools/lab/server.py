@@ -14,6 +14,7 @@ from .parts import Part
 ADDRESS = "127.0.0.1"
 GREATEST_SCRIPT = 1_048_576
 GREATEST_HORIZON = 10**18
+LONGEST_TAB = 40
 LONGEST_TITLE = 200
 FORMS = ("picture", "svg", "trace", "detail")
 # Nothing is loaded from anywhere else, no script stands in a page, and no other page can hold this one.
@@ -55,7 +56,7 @@ class Handler(BaseHTTPRequestHandler):
             self._send(HTTPStatus.OK, part.text, part.kind)
 
     def do_POST(self) -> None:
-        """run?horizon=N&pane=PANE&form=FORM&title=TEXT with the script as its body."""
+        """run?horizon=N&pane=PANE&form=FORM&title=TEXT&tab=WORD with the script as its body."""
         name = self._name()
         if name is None:
             return
@@ -66,13 +67,13 @@ class Handler(BaseHTTPRequestHandler):
         if script is None:
             return
         said = {word: values[0] for word, values in parse_qs(urlsplit(self.path).query).items()}
-        horizon, pane, form = said.get("horizon", ""), said.get("pane", ""), said.get("form", "picture")
+        horizon, pane, form, tab = said.get("horizon", ""), said.get("pane", ""), said.get("form", "picture"), said.get("tab", "")[:LONGEST_TAB]
         right = horizon.isascii() and horizon.isdigit() and len(horizon) <= 19 and int(horizon) <= GREATEST_HORIZON
         if not right or pane not in PANES or form not in FORMS:
             self._say(HTTPStatus.BAD_REQUEST, b"The horizon, the pane or the form is none.\n")
             return
         try:
-            text = self.server.desk.ask(pane, Request(script, int(horizon), form, said.get("title", "")[:LONGEST_TITLE]))
+            text = self.server.desk.ask(tab, pane, Request(script, int(horizon), form, said.get("title", "")[:LONGEST_TITLE]))
         except Stopped as stopped:
             text = json.dumps({"why": str(stopped)}).encode()
         self._send(HTTPStatus.OK, text, "application/json")

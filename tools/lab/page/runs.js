@@ -1,8 +1,15 @@
 // Asks the server for runs. Of one pane the newest script counts: one request is under way, and what was typed meanwhile follows it.
 const PATIENCE = 400, LONG = 700;
 
+// A word for this tab, which it keeps where the page is loaded again, so that a run of another tab is left alone.
+function tabWord() {
+  const fresh = crypto.getRandomValues(new Uint32Array(3)).join("-");
+  try { sessionStorage.setItem("tab", sessionStorage.getItem("tab") ?? fresh); return sessionStorage.getItem("tab"); } catch { return fresh; }
+}
+const TAB = tabWord();
+
 export async function ask(pane, form, script, horizon, title) {
-  const query = new URLSearchParams({ pane, form, horizon, title });
+  const query = new URLSearchParams({ pane, form, horizon, title, tab: TAB });
   const answer = await fetch("run?" + query, { method: "POST", body: script, headers: { "Content-Type": "text/plain" } });
   if (answer.ok) return answer.json();
   return { why: (await answer.text()).trim() };

@@ -68,8 +68,8 @@ class Served:
         finally:
             there.close()
 
-    def run(self, script: bytes, horizon: int = 20, pane: str = "a", form: str = "picture", **headers: str) -> tuple[int, bytes, dict[str, str]]:
-        return self.ask("POST", f"/{self.token}/run?horizon={horizon}&pane={pane}&form={form}", script, **headers)
+    def run(self, script: bytes, horizon: int = 20, pane: str = "a", form: str = "picture", tab: str = "", **headers: str) -> tuple[int, bytes, dict[str, str]]:
+        return self.ask("POST", f"/{self.token}/run?horizon={horizon}&pane={pane}&form={form}&tab={tab}", script, **headers)
 
 
 def alive(process: int) -> bool:

@@ -102,7 +102,30 @@ class Server(unittest.TestCase):
         time.sleep(0.7)
         self.assertIn("text", json.loads(self.lab.run(SCRIPT, form="trace")[1]))
         older.join()
-        self.assertEqual(json.loads(answers[0]), {"why": "a newer run took its place, as of another tab; change something here to run this one again"})
+        self.assertEqual(json.loads(answers[0]), {"why": "a newer run took its place; change something here to run this one again"})
+
+    def test_a_run_of_another_tab_is_left_alone(self) -> None:
+        """The long run of one tab comes to its own limit, and the short one of another has its answer meanwhile."""
+        self.lab.run(SCRIPT)
+        answers: list[bytes] = []
+        long = threading.Thread(target=lambda: answers.append(self.lab.run(LONG, FAR, tab="one")[1]))
+        long.start()
+        time.sleep(0.7)
+        self.assertIn("4 exit a", json.loads(self.lab.run(SCRIPT, form="trace", tab="two")[1])["text"])
+        self.assertEqual(answers, [])
+        long.join()
+        self.assertEqual(json.loads(answers[0]), {"why": "the run took longer than 4 s and was ended; take a smaller horizon"})
+
+    def test_many_tabs_have_few_workers(self) -> None:
+        """Sixteen tabs ask at once: each has its answer, and no more than four workers and the two of the start are left."""
+        answers: list[bytes] = []
+        tabs = [threading.Thread(target=lambda tab=str(n): answers.append(self.lab.run(SCRIPT, form="trace", tab=tab)[1])) for n in range(16)]
+        for tab in tabs:
+            tab.start()
+        for tab in tabs:
+            tab.join()
+        self.assertEqual(["4 exit a" in json.loads(answer)["text"] for answer in answers], [True] * 16)
+        self.assertLessEqual(len(self.lab.children), 6)
 
     def test_what_is_refused(self) -> None:
         _, text, _ = self.lab.run(b"thread a fifo 5 at 0\n    rum 3\nend\n")
