@@ -14,6 +14,7 @@ from typing import NoReturn, TextIO
 if sys.stderr is None:  # it was closed, and what asks or writes there finds a stream all the same
     sys.stderr = open(os.devnull, "w", encoding="utf-8")
 VERSION = Path(__file__).resolve().parents[2] / "VERSION"
+GREATEST_TICKS = 10**18
 
 
 class Status(IntEnum):
@@ -53,8 +54,8 @@ class Words(argparse.ArgumentParser):
 
 def number_of_ticks(word: str) -> int:
     """A number as the program takes it: decimal digits, at most 10^18."""
-    if not (word.isascii() and word.isdigit()) or len(word) > 19 or int(word) > 10**18:
-        raise argparse.ArgumentTypeError(f"'{word}' is no number of ticks from 0 to 1000000000000000000")
+    if not (word.isascii() and word.isdigit()) or len(word) > 19 or int(word) > GREATEST_TICKS:
+        raise argparse.ArgumentTypeError(f"'{word}' is no number of ticks from 0 to {GREATEST_TICKS}")
     return int(word)
 
 

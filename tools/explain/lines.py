@@ -5,12 +5,14 @@ import re
 
 from forms import DECLARED, GREATEST_NUMBER, OPERAND, RANGES, REAL, SERVER_WORDS, SIGNAL, SIGNAL_SET, is_place
 from reader import Entry, FaultKind, is_number, operand_fault, read_line
+from words import is_signal
 
 from .found import Found, Word, listed, words_in
-from .patterns import LETTERS, MEANT, SERVER, Forms, best_form, meant_by, nearest, pattern_of
+from .patterns import KEYWORDS, LETTERS, MEANT, SERVER, Forms, best_form, meant_by, nearest, pattern_of
 
 _CLOCKS = {REAL: REAL, "realtime": REAL, "clock_realtime": REAL, "monotonic": "", "clock_monotonic": ""}
 """What people write for a clock, and the word for it."""
+ELSE = ("else", "elif", "elseif")
 _BYTES = {0: "a zero byte", 11: "a vertical tab", 12: "a form feed", 13: "a Windows line end", 27: "an escape", 127: "a delete"}
 
 
@@ -77,22 +79,44 @@ def _unknown_word(number: int, words: list[Word], forms: Forms) -> Found:
     if first.text not in forms:
         if first.text.startswith("//") or first.text.startswith(";") or first.text.startswith("--"):
             return Found(1, number, FaultKind.UnknownWord, first, f"'{first.text}' begins no line", "a comment begins with `#`")
-        if first.text.lower() in ("else", "elif", "elseif"):
+        if first.text.lower() in ELSE:
             return Found(1, number, FaultKind.UnknownWord, first, "there is no `else`",
                          "end the block of `if R`, and open one of `unless R` with the same R behind it")
         meant = meant_by(first.text)
+        if meant is None and nearest(first.text, ["version"]):
+            return Found(1, number, FaultKind.UnknownWord, first, f"'{first.text}' begins no line of a script",
+                         "did you mean `version 2`? That is the first line with words")
         known = f"`{meant}` is what does it here" if first.text.lower() in MEANT else f"did you mean `{meant}`?"
+        behind = f"`{first.text}` stands behind another word: " if first.text in KEYWORDS else ""
         return Found(1, number, FaultKind.UnknownWord, first, f"'{first.text}' begins no line of a script",
-                     f"{known} {_patterns(meant, forms)}" if meant else "docs/SCRIPT.md, Patterns, has every line that there is")
+                     f"{known} {_patterns(meant, forms)}" if meant else f"{behind}docs/SCRIPT.md, Patterns, has every line that there is")
     if (server := _server(texts)) is not None:
         return Found(1, number, FaultKind.UnknownWord, _policy(words), *server)
     form = best_form(texts, forms)
     at, expected = _first_difference(texts, forms)
     near = nearest(texts[at], expected)
     behind = " ".join(texts[:at])
+    if texts[at - 1] in expected:
+        return Found(1, number, FaultKind.UnknownWord, words[at - 1], f"a word is missing before `{texts[at - 1]}`", f"write `{pattern_of(form)}`")
+    if not near and (lacking := _lacking(texts, at, forms)):
+        return Found(1, number, FaultKind.UnknownWord, words[at], f"a word is missing before `{texts[at]}`", f"write {listed(lacking)}")
     pattern = "" if texts[0] in ("if", "unless") else f"; the nearest pattern is `{pattern_of(form)}`"
+    joined = re.fullmatch(r"([a-z]+)([0-9]+)", texts[at])
+    if joined is not None and joined[1] in expected:
+        near = f"{joined[1]} {joined[2]}"
     return Found(1, number, FaultKind.UnknownWord, words[at], f"'{texts[at]}' may not stand behind `{behind}`",
                  f"did you mean `{near}`?" if near else f"there stands {listed(expected)}{pattern}")
+
+
+def _lacking(texts: list[str], at: int, forms: Forms) -> list[str]:
+    """The patterns that a line would have with one keyword more before a word."""
+    found = []
+    for form in forms[texts[0]]:
+        whole = [*texts[:at], *form.words[at:at + 1], *texts[at:]]
+        if len(whole) == len(form.words) and form.agrees(whole) and all(
+                operand_fault(want, have) is None for want, have in zip(form.words, whole) if is_place(want)):
+            found.append(pattern_of(form))
+    return found
 
 
 def _first_difference(texts: list[str], forms: Forms) -> tuple[int, list[str]]:
@@ -127,11 +151,9 @@ def _server(texts: list[str]) -> tuple[str, str] | None:
     if len(numbers) == 5 or len(numbers) == 0:
         return None
     wrong = f"behind `{policy}` come five numbers, and there are {len(numbers)}"
-    if len(numbers) != 4:
-        return wrong, f"they are: {five}"
-    missing = [at for at in (4, 1, 3, 2, 0) if _fits(numbers, at)]
-    if not missing:
-        return wrong, f"they are: {five}"
+    missing = [at for at in (4, 1, 3, 2, 0) if len(numbers) == 4 and _fits(numbers, at)]
+    if len(missing) not in (1, 2):
+        return wrong, f"they are, in this order: {five}"
     names = " or ".join(SERVER[at] for at in missing)
     return wrong, f"missing is {names}: the five are {five}"
 
@@ -161,8 +183,11 @@ def _word_count(number: int, words: list[Word], forms: Forms) -> Found:
     wants = f"write `{pattern_of(form)}`" if len(agreeing) == 1 else f"write {listed([pattern_of(form) for form in agreeing])}"
     longest = max(len(form.words) for form in agreeing)
     if len(texts) > longest:
+        wants = _instead(texts, longest, forms) or wants
         if all(text.startswith(",") or text.endswith(",") or "," in text for text in texts[longest - 1:longest]):
             wants += "; a set has no blanks round its commas"
+        elif form.words[-1] == SIGNAL_SET and is_signal(texts[longest]):
+            wants += "; the signals of a set stand between commas, as `rt1,rt5`"
         if (clock := _clock(texts[0], texts[longest], forms)) is not None:
             wants = clock
         return Found(1, number, FaultKind.WordCount, words[longest], f"'{texts[longest]}' is a word too many", wants)
@@ -170,6 +195,15 @@ def _word_count(number: int, words: list[Word], forms: Forms) -> Found:
     missing = [_what(place) for place in form.words[len(texts):]]
     wrong = f"the line ends too early: {' '.join(missing)} is missing" if len(agreeing) == 1 else "the line ends too early"
     return Found(1, number, FaultKind.WordCount, end, wrong, wants)
+
+
+def _instead(texts: list[str], longest: int, forms: Forms) -> str | None:
+    """What to write for a word too many where it is misspelt, or where `real` does not stand last."""
+    longer = [form for form in forms[texts[0]] if len(form.words) > longest and form.agrees(texts[:longest])]
+    if (near := nearest(texts[longest], [form.words[longest] for form in longer if not is_place(form.words[longest])])) is not None:
+        return f"did you mean `{near}`?"
+    last = [form for form in longer if form.words[-1] == REAL and len(form.words) == len(texts) and REAL in texts[:longest]]
+    return f"write `{pattern_of(last[0])}`: `real` stands last" if last else None
 
 
 def _clock(head: str, word: str, forms: Forms) -> str | None:

@@ -7,7 +7,7 @@ from words import is_signal
 
 from .found import Aside, Found, Word
 from .lines import declared_word, number_fault, used_words
-from .patterns import SERVER, nearest
+from .patterns import SERVER, nearest, pattern_of
 
 KINDS = {ObjectKind.THREAD: "a thread", ObjectKind.HANDLER: "a signal handler", ObjectKind.CLEANUP: "a cleanup handler",
          ObjectKind.MUTEX: "a mutex", ObjectKind.COND: "a condition", ObjectKind.SEM: "a semaphore", ObjectKind.QUEUE: "a queue",
@@ -79,7 +79,7 @@ def _wrong_kind(entry: Entry, entries: list[Entry], words: list[Word]) -> Found:
             first = known[word.text]
             return Found(2, entry.line, FaultKind.WrongKind, word,
                          f"`{word.text}` is {KINDS[first.form.declares]}, and {KINDS[USES[place]]} belongs here",
-                         "use a name of that kind", (Aside(first.line, "declared here"),))
+                         f"use a name of that kind (the pattern is `{pattern_of(entry.form)}`)", (Aside(first.line, "declared here"),))
     raise AssertionError(entry)
 
 

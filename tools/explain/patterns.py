@@ -4,6 +4,7 @@ from __future__ import annotations
 from difflib import get_close_matches
 
 from forms import DECLARED, FORMS, OPERAND, RANGES, SIGNAL, SIGNAL_SET, Form, is_place
+from reader import is_number
 
 Forms = dict[str, tuple[Form, ...]]  # of a version, by their first word
 
@@ -11,6 +12,8 @@ LETTERS = {DECLARED: "NAME", SIGNAL: "SIG", SIGNAL_SET: "SET", OPERAND: "V", "<p
            "<cond>": "C", "<sem>": "S", "<queue>": "Q", "<timer>": "K", "<handler>": "H", "<cleanup>": "U"}
 SERVER = ("the high priority", "the low priority", "the period", "the budget", "the greatest number of pending replenishments")
 FIRST_WORDS = sorted({form.head for form in FORMS})
+KEYWORDS = {word for form in FORMS for word in form.words if not is_place(word)} - set(FIRST_WORDS)
+"""The words of the language that begin no line."""
 
 # What people write who know POSIX, or another language, and what stands for it here.
 MEANT = {
@@ -48,14 +51,20 @@ def nearest(word: str, words: list[str]) -> str | None:
 
 
 def meant_by(word: str) -> str | None:
-    """The first word of a line that was meant by one that begins none."""
-    return MEANT.get(word.lower()) or nearest(word, FIRST_WORDS)
+    """The first word of a line that was meant by one that begins none and is no other word of the language."""
+    return None if word in KEYWORDS else MEANT.get(word.lower()) or nearest(word, FIRST_WORDS)
 
 
 def best_form(words: list[str], forms: Forms) -> Form | None:
-    """The form that a line comes nearest to: the most of its keywords stand in the line in their order, and then in the nearest number of words."""
-    found = forms.get(words[0], ())
-    return max(found, key=lambda form: (_agreement(form, words), -abs(len(form.words) - len(words))), default=None)
+    """The form that a line comes nearest to: the most of its keywords stand in the line in their order; then in numbers, then in words."""
+    numbers = sum(map(is_number, words))
+    return max(forms.get(words[0], ()), default=None, key=lambda form: (
+        _agreement(form, words), -abs(_numbers(form) - numbers), -abs(len(form.words) - len(words))))
+
+
+def _numbers(form: Form) -> int:
+    """How many numbers a line of a form has."""
+    return sum(want in RANGES for want in form.words)
 
 
 def _agreement(form: Form, words: list[str]) -> int:
@@ -65,9 +74,3 @@ def _agreement(form: Form, words: list[str]) -> int:
         if not is_place(want) and want in rest:
             count, rest = count + 1, rest[rest.index(want) + 1:]
     return count
-
-
-def range_of(place: str) -> str:
-    """The range of a number's place, in words."""
-    least, most = RANGES[place]
-    return f"from {least} to {'10^18' if most == 10**18 else most}"

@@ -1,13 +1,15 @@
 """All faults of a text."""
 from __future__ import annotations
 
+from dataclasses import replace
+
 from forms import Role, Stage, built_forms
 from reader import (
     LIMITS_OF_VERSION, Entry, Fault, FaultKind, heading_of, limit_faults, lines_above_limits, lines_of, name_faults)
 
-from .blocks import Blocks
+from .blocks import Blocks, closings_behind
 from .found import Found, indent_of, words_in
-from .lines import bad_byte, bad_version, line_fault
+from .lines import ELSE, bad_byte, bad_version, line_fault
 from .names import explained
 
 GREATEST_TEXT = 1_048_576
@@ -56,28 +58,39 @@ def _by_lines(lines: list[bytes], version: int) -> tuple[list[Found], list[Entry
     found: list[Found] = []
     entries: list[Entry] = []
     guessed: list[Entry] = []
-    blocks = Blocks()
-    heading, forms = heading_of(lines), built_forms(Stage.WHOLE, version)
-    for number, line in enumerate(lines, 1):
-        fault = None
-        if number == heading.line and heading.version == 0:
-            found.append(bad_version(number, words_in(line)))
-            continue
-        if any(byte != 9 and not 32 <= byte <= 126 for byte in line):
-            fault = bad_byte(number, line)
-            line = bytes(byte if byte == 9 or 32 <= byte <= 126 else 32 for byte in line)
-        words = words_in(line)
-        if not words or number == heading.line:
-            found += [fault] if fault else []
-            continue
-        entry, own = line_fault(number, line, forms)
-        fault = fault or own
+    alone = _each_alone(lines, version)
+    blocks = Blocks(closings_behind([entry and entry.form for entry, _ in alone]))
+    for number, (line, (entry, fault)) in enumerate(zip(lines, alone), 1):
         if entry is not None:
-            indent = indent_of(line)
-            blocks.look(number, entry.form, indent)
-            fault = fault or blocks.fault(number, entry.form, words[0])
-            blocks.go_on(number, entry.form, indent)
+            line = _without_bad_bytes(line)
+            blocks.look(number, entry.form, indent_of(line))
+            fault = fault or blocks.fault(number, entry.form, words_in(line)[0])
+            blocks.go_on(number, entry.form, indent_of(line))
             (entries if fault is None else guessed).append(entry)
         found += [fault] if fault else []
     unclosed = blocks.unclosed(len(lines) + 1)
     return found + ([unclosed] if unclosed else []), entries, guessed
+
+
+def _each_alone(lines: list[bytes], version: int) -> list[tuple[Entry | None, Found | None]]:
+    """The entry of each line, as far as it can be told, and its fault by itself."""
+    alone: list[tuple[Entry | None, Found | None]] = []
+    heading, forms = heading_of(lines), built_forms(Stage.WHOLE, version)
+    is_behind_end = False
+    for number, line in enumerate(lines, 1):
+        if number == heading.line and heading.version == 0:
+            alone.append((None, bad_version(number, words_in(line))))
+            continue
+        cleaned = _without_bad_bytes(line)
+        fault = bad_byte(number, line) if cleaned != line else None
+        entry, own = line_fault(number, cleaned, forms) if words_in(cleaned) and number != heading.line else (None, None)
+        if own and is_behind_end and words_in(cleaned)[0].text.lower() in ELSE:
+            entry = Entry(number, forms["unless"][0], ())  # the block before it is closed, so it was to open one
+            own = replace(own, mend="write `unless R`, with the R of the `if` whose block is closed above")
+        alone.append((entry, fault or own))
+        is_behind_end = entry.form.head == "end" if entry else is_behind_end and not words_in(cleaned)
+    return alone
+
+
+def _without_bad_bytes(line: bytes) -> bytes:
+    return bytes(byte if byte == 9 or 32 <= byte <= 126 else 32 for byte in line)

@@ -57,7 +57,8 @@ def read_map(text: str) -> NameMap:
             if words:
                 take(found, words)
         except (ValueError, ArithmeticError):
-            raise WrongMap(f"line {number} of the map, '{line.strip()}': no number stands where one should") from None
+            due = next(each for each in LINES if each.split()[0] == words[0])
+            raise WrongMap(f"line {number} of the map, '{line.strip()}': no number stands where one should; it is {due}") from None
         except WrongMap as wrong:
             raise WrongMap(f"line {number} of the map, '{line.strip()}': {wrong}") from None
     if found.tick <= 0:

@@ -13,16 +13,17 @@ from pathlib import Path
 from urllib.parse import quote
 
 from command import Status, Words, carried_out, write
-from view.source import horizon_of
+from view.source import GREATEST_SCRIPT, horizon_of
 
 from .desk import Desk
 from .gallery import gallery
 from .parts import parts
-from .server import GREATEST_SCRIPT, Lab
+from .server import Lab
 
 TOOL = "pse52-lab"
 ENDING = (signal.SIGINT, signal.SIGTERM)
 LINK = re.compile(r"(?:https?://[^#]*)?#(.*)")
+ADDRESS = re.compile(r"https?://.*")
 
 
 class NoPort(Exception):
@@ -31,9 +32,12 @@ class NoPort(Exception):
 
 def seconds_of(word: str) -> float:
     """How long a run may take."""
-    seconds = float(word)
+    try:
+        seconds = float(word)
+    except ValueError:
+        seconds = 0.0
     if not 0 < seconds < math.inf:
-        raise argparse.ArgumentTypeError(f"'{word}' leaves no run the time to end: a number above 0 is meant")
+        raise argparse.ArgumentTypeError(f"'{word}' gives no run the time to end: a number of seconds above 0 is meant")
     return seconds
 
 
@@ -55,6 +59,8 @@ def fragment_of(said: str | None) -> str:
     link = LINK.fullmatch(said)
     if link is not None:
         return "#" + link[1]
+    if ADDRESS.fullmatch(said):
+        raise OSError(errno.EINVAL, "the link has no #, behind which its script stands; a shell needs a link in quotes", said)
     with open(said, "rb") as file:
         script = file.read(GREATEST_SCRIPT + 1)
     if len(script) > GREATEST_SCRIPT:

@@ -15,14 +15,12 @@ from explain.text import faults_of
 from simulate import answer as reference_answer
 from view.facts import FORMS as FACT_FORMS
 from view.html import data_of
-from view.lines import read_trace
+from view.lines import TooManyLines, read_trace
 from view.seen import timeline_of
-from view.source import MOST_TICKS, REFERENCE, programs
+from view.source import MOST_TICKS, REFERENCE, REFUSED, USAGE, programs
 from view.svg import draw
 
-USAGE, REFUSED = 1, 2
 MOST_DETAIL = 64 * 1024 * 1024
-FORMS = ("picture", "svg", "trace", "detail")
 REFERENCES = "the reference"
 
 
@@ -155,7 +153,10 @@ def answer(script: bytes, horizon: int, form: str, title: str, sources: Sources)
         return {"text": (ran.trace if form == "trace" else ran.detail).decode("ascii")}
     if len(ran.detail) > MOST_DETAIL:
         return {"why": f"the detail has more than {MOST_DETAIL} bytes; take a smaller horizon"}
-    seen = timeline_of(read_trace(ran.detail.splitlines(keepends=True)))
+    try:
+        seen = timeline_of(read_trace(ran.detail.splitlines(keepends=True)))
+    except TooManyLines as wrong:
+        return {"why": str(wrong)}
     seen.title = title
     if form == "svg":
         return {"text": draw(seen)}

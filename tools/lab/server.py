@@ -8,12 +8,13 @@ from http import HTTPStatus
 from http.server import BaseHTTPRequestHandler, ThreadingHTTPServer
 from urllib.parse import parse_qs, urlsplit
 
+from command import GREATEST_TICKS
+from view.source import GREATEST_SCRIPT
+
 from .desk import PANES, Desk, Request, Stopped
 from .parts import Part
 
 ADDRESS = "127.0.0.1"
-GREATEST_SCRIPT = 1_048_576
-GREATEST_HORIZON = 10**18
 LONGEST_TAB = 40
 LONGEST_TITLE = 200
 FORMS = ("picture", "svg", "trace", "detail")
@@ -28,6 +29,7 @@ class Lab(ThreadingHTTPServer):
 
     daemon_threads = True
     allow_reuse_address = True
+    request_queue_size = 64  # connections that may wait to be taken
 
     def __init__(self, port: int, token: str, said: dict[str, Part], desk: Desk) -> None:
         super().__init__((ADDRESS, port), Handler)
@@ -68,7 +70,7 @@ class Handler(BaseHTTPRequestHandler):
             return
         said = {word: values[0] for word, values in parse_qs(urlsplit(self.path).query).items()}
         horizon, pane, form, tab = said.get("horizon", ""), said.get("pane", ""), said.get("form", "picture"), said.get("tab", "")[:LONGEST_TAB]
-        right = horizon.isascii() and horizon.isdigit() and len(horizon) <= 19 and int(horizon) <= GREATEST_HORIZON
+        right = horizon.isascii() and horizon.isdigit() and len(horizon) <= 19 and int(horizon) <= GREATEST_TICKS
         if not right or pane not in PANES or form not in FORMS:
             self._say(HTTPStatus.BAD_REQUEST, b"The horizon, the pane or the form is none.\n")
             return

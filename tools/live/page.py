@@ -122,8 +122,8 @@ SHORT = {Side.STANDARD: "the rules'", Side.OPEN: "open, or Linux's", Side.OWN: "
 
 def counts() -> str:
     sides = [each.side for each in by_name().values()]
-    return (f"There are {len(sides) - sides.count(Side.RIG)}: in {sides.count(Side.STANDARD)} the standard is on the side of the rules,\n"
-            f"{sides.count(Side.OPEN)} it leaves open, or it leans to Linux, and in {sides.count(Side.OWN)} the rule is this project's own.")
+    return (f"There are {len(sides) - sides.count(Side.RIG)}: in {sides.count(Side.STANDARD)} the standard is on the side of the rules, in "
+            f"{sides.count(Side.OPEN)} it leaves the\nchoice open or leans to Linux, and in {sides.count(Side.OWN)} the rule is this project's own.")
 
 
 def figures() -> str:

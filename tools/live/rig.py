@@ -8,7 +8,7 @@ from dataclasses import dataclass, field
 
 from forms import ObjectKind
 from reader import read
-from script import Rr, Script
+from script import Script
 
 from .compare import Comparison, compare
 from .due import Due, Refused, Side, read_due

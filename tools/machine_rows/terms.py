@@ -1,7 +1,7 @@
 """A script as the term that its definition is about."""
 from __future__ import annotations
 
-from forms import ABSOLUTE_WAITS, OPERAND, ObjectKind
+from forms import ABSOLUTE_WAITS, OPERAND
 from script import (
     Action, AddRegister, Call, CleanupKind, CondKind, Fifo, Guard, HandlerKind, Loop, MutexKind, Named, QueueKind, Rr,
     Run, Script, SemKind, SetRegister, Sporadic, Strict, TakeValue, Test, ThreadKind, TimerKind)

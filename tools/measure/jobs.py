@@ -22,6 +22,10 @@ NEXT_JOB = ("clock_nanosleep", "nanosleep", "sigwaitinfo", "sigtimedwait", "sem_
             "wait", "timedwait")
 
 
+# The lines of a trace that no thread stands in.
+OF_NO_THREAD = ("idle", "end", "killed")
+
+
 class NamesNothing(Exception):
     """What is asked for is not in the trace, or is there where it cannot be."""
 
@@ -92,7 +96,7 @@ def thread_of(seen: Seen, name: str) -> str:
 
 def checked(seen: Seen, words: list[str]) -> list[str]:
     """The first words of a line, whose thread is there."""
-    if len(words) > 1 and words[1] != "*" and words[0] not in ("idle", "end", "killed"):
+    if len(words) > 1 and words[1] != "*" and words[0] not in OF_NO_THREAD:
         thread_of(seen, words[1])
     return words
 

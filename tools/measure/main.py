@@ -6,12 +6,12 @@ import tomllib
 from pathlib import Path
 
 from command import Status, Usage, Words, carried_out, number_of_ticks, say, write
-from view.lines import NotATraceLine, read_trace
+from view.lines import NotATraceLine, TooManyLines, read_trace
 from view.source import Given, NoSource, given
 
 from .jobs import NamesNothing
-from .measures import Measure, WrongMeasure, measure_of, measure_of_words, without_places
-from .notes import notes_of
+from .measures import JOBS, Measure, WrongMeasure, measure_of_words, measures_in, without_places
+from .notes import notes_of, notes_of_run
 from .rta import Analysis, remarks, rta_table
 from .seen import Seen
 from .tables import as_csv, as_text, share, tables_of
@@ -49,10 +49,10 @@ def measures_of(said: argparse.Namespace) -> list[Measure]:
     measures = [measure_of_words(words) for words in said.jobs]
     if said.measures:
         try:
-            tables = tomllib.loads(said.measures.read_bytes().decode()).get("measure", [])
-        except (tomllib.TOMLDecodeError, UnicodeDecodeError) as wrong:
+            found = measures_in(tomllib.loads(said.measures.read_bytes().decode()).get("measure", []))
+        except (tomllib.TOMLDecodeError, UnicodeDecodeError, WrongMeasure) as wrong:
             raise WrongMeasure(f"{said.measures}: {wrong}") from None
-        measures += [without_places(measure) for measure in map(measure_of, tables) if measure.words["kind"] in ("periodic", "response")]
+        measures += [without_places(measure) for measure in found if measure.words["kind"] in JOBS]
     return measures
 
 
@@ -64,10 +64,10 @@ def taken(said: argparse.Namespace) -> Given:
     return found
 
 
-def check(seen: Seen, measures: list[Measure], is_run: bool) -> list[str]:
+def check(seen: Seen, measures: list[Measure]) -> list[str]:
     """What must be said beside the figures. Raises NamesNothing where a measure names what never comes."""
-    notes = notes_of(seen, measures)
-    if not (seen.is_detail or is_run):
+    notes = [*notes_of_run(seen), *notes_of(seen, measures)]
+    if not seen.is_detail:
         notes.append("a trace does not tell what a thread waits for, nor at which priority it runs on; "
                      "of the script, or of a detail, that is measured too")
     return notes
@@ -83,8 +83,8 @@ def measured(said: argparse.Namespace) -> str:
     """The text that is written."""
     measures = measures_of(said)
     lines, script = taken(said)
-    seen = Seen(read_trace(lines))
-    for note in check(seen, measures, script is not None):
+    seen = Seen(read_trace(lines), script is not None)
+    for note in check(seen, measures):
         say(TOOL, note)
     tables = list(tables_of(seen, measures))
     if not said.rta or script is None:
@@ -100,4 +100,4 @@ def measured(said: argparse.Namespace) -> str:
 
 def main(words: list[str]) -> int:
     return carried_out(TOOL, lambda: write(TOOL, measured(words_of(words))),
-                       dict.fromkeys((NotATraceLine, NamesNothing, WrongMeasure, NoSource, NoTask), Status.REFUSED))
+                       dict.fromkeys((NotATraceLine, TooManyLines, NamesNothing, WrongMeasure, NoSource, NoTask), Status.REFUSED))

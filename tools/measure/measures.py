@@ -12,13 +12,14 @@ from fractions import Fraction
 
 from view.lines import CALLS, SIGNALS
 
-from .jobs import SLEEP, Jobs, NamesNothing, answered, behind_a_lost_signal, periodic, thread_of
+from .jobs import OF_NO_THREAD, SLEEP, Jobs, NamesNothing, answered, behind_a_lost_signal, periodic, thread_of
 from .seen import EVENTS, Seen
 from .usage import (
     capacity_of, high_ticks, is_server, refill_waits, stops_of, ticks_of, waits_of)
 
 Figure = int | Fraction | None
 Table = dict[str, object]
+JOBS = ("periodic", "response")
 LOCKS = frozenset(("lock", "timedlock"))
 PLACE = re.compile(r"\{[a-z][a-z0-9_]*\}")
 
@@ -46,6 +47,13 @@ class Measure:
             return [shown(figure) for figure in self.read(seen, filled(self.words, values or {}))]
         except NamesNothing as wrong:
             raise NamesNothing(f"measure '{self.name}': {wrong}") from None
+
+    @property
+    def threads(self) -> list[str]:
+        """The names of the threads that its words say."""
+        lines = [str(self.words.get(key, "")).split() for key in ("from", "to")]
+        named = [str(self.words["thread"])] if "thread" in self.words else []
+        return named + [line[1] for line in lines if len(line) > 1 and line[1] != "*" and line[0] not in (*OF_NO_THREAD, "call")]
 
     @property
     def warning(self) -> str | None:
@@ -141,7 +149,10 @@ def read_exhausted(seen: Seen, words: Table) -> list[Figure]:
 
 
 def read_refill_wait(seen: Seen, words: Table) -> list[Figure]:
-    waits = refill_waits(seen, server_of(seen, words))
+    name = server_of(seen, words)
+    waits = refill_waits(seen, name)
+    if waits is None:
+        raise NamesNothing(f"the waits of '{name}' for a refill are not told, since a 'setsched' may have changed its policy")
     return [sum(waits), max(waits, default=None)]
 
 
@@ -190,7 +201,7 @@ KINDS: dict[str, Kind] = {
     "high_share": _kind("thread", "", ("",), read_share),
     "capacity": _kind("thread", "", ("used", "had"), read_capacity),
     "exhausted": _kind("thread", "", ("",), read_exhausted),
-    "refill_wait": _kind("thread", "", ("total", "longest"), read_refill_wait),
+    "refill_wait": _kind("thread", "", ("total", "longest"), read_refill_wait, True),
     "lock": _kind("", "thread", ("",), read_lock),
     "blocked": _kind("thread", "call on", ("times", "total", "longest"), read_blocked, True),
     "preempted": _kind("thread", "", ("",), read_preempted, True),
@@ -203,7 +214,7 @@ def measure_of(table: Table) -> Measure:
     name, kind = table.get("name"), table.get("kind")
     if not isinstance(name, str) or not name.isidentifier() or not name.isascii():
         raise WrongMeasure("each measure has a 'name' of letters, digits and '_'")
-    if kind not in KINDS:
+    if not isinstance(kind, str) or kind not in KINDS:
         raise WrongMeasure(f"measure '{name}': 'kind' is one of {', '.join(KINDS)}")
     row = KINDS[kind]
     for key in table:
@@ -223,6 +234,13 @@ def measure_of(table: Table) -> Measure:
     return Measure(dict(table), columns, row.needs_detail or calls, row.read)
 
 
+def measures_in(tables: object) -> list[Measure]:
+    """The measures of the tables of a file. Raises WrongMeasure."""
+    if not isinstance(tables, list) or not all(isinstance(table, dict) for table in tables):
+        raise WrongMeasure("what is measured stands in tables [[measure]]")
+    return list(map(measure_of, tables))
+
+
 def measure_of_words(said: str) -> Measure:
     """The measure of jobs that words KEY=VALUE say. Its name is that of the thread where none is said, and its kind follows from its keys."""
     table: Table = {}
@@ -234,11 +252,15 @@ def measure_of_words(said: str) -> Measure:
         key, equals, value = word.partition("=")
         if not equals:
             raise WrongMeasure(f"--jobs has words KEY=VALUE, and '{word}' is none")
+        if key in table:
+            raise WrongMeasure(f"--jobs has '{key}=' twice, and of both one alone would count: {said}")
         table[key] = int(value) if value.isascii() and value.isdigit() else value
     if not {"period", "from", "kind"} & set(table):
         raise WrongMeasure(f"--jobs needs period= of a periodic thread, or from= and to= of what begins and ends a job, and '{said}' has neither")
     table.setdefault("kind", "periodic" if "period" in table else "response")
     table.setdefault("name", table.get("thread", "jobs"))
+    if table["kind"] not in JOBS:
+        raise WrongMeasure(f"--jobs is of kind {' or '.join(JOBS)}, and not '{table['kind']}'")
     return without_places(measure_of(table))
 
 
@@ -253,10 +275,10 @@ def without_places(measure: Measure) -> Measure:
 def _check_value(name: str, key: str, value: object) -> None:
     if key in NUMBERS:
         is_place = isinstance(value, str) and PLACE.fullmatch(value)
-        if not is_place and (not isinstance(value, int) or isinstance(value, bool) or value < NUMBERS[key]):
+        if not is_place and (type(value) is not int or value < NUMBERS[key]):
             raise WrongMeasure(f"measure '{name}': '{key}' is a number of at least {NUMBERS[key]}, or \"{{name}}\"")
     elif key == "percentiles":
-        if not isinstance(value, list) or not all(isinstance(percent, int) and 1 <= percent <= 100 for percent in value):
+        if not isinstance(value, list) or not all(type(percent) is int and 1 <= percent <= 100 for percent in value):
             raise WrongMeasure(f"measure '{name}': 'percentiles' is a list of numbers from 1 to 100")
     elif not isinstance(value, str):
         raise WrongMeasure(f"measure '{name}': '{key}' is a text")
@@ -269,6 +291,9 @@ def _check_line(name: str, key: str, said: str, kind: str) -> None:
         return
     if kind == "periodic" and words[:1] == ["call"] and len(words) == 2 and words[1] in CALLS:
         return
+    if kind == "response" and words[:1] == ["call"]:
+        raise WrongMeasure(f"measure '{name}': '{said}' may end a job of a periodic thread alone, which has period=; "
+                           f"here '{key}' begins with the word of a trace line, as 'return'")
     if not words or words[0] not in EVENTS:
         raise WrongMeasure(f"measure '{name}': '{key}' begins with the word of a trace line, as 'return', and not with '{said}'")
     known = {"return": CALLS, "deliver": SIGNALS}.get(words[0])
@@ -278,6 +303,6 @@ def _check_line(name: str, key: str, said: str, kind: str) -> None:
 
 def never_done(measure: Measure, rows: Iterable[dict[str, str]]) -> bool:
     """Whether jobs are measured, and in no row one is done: the measure then names nothing."""
-    if measure.words["kind"] not in ("periodic", "response"):
+    if measure.words["kind"] not in JOBS:
         return False
     return all(row[f"{measure.name}_jobs"] == row[f"{measure.name}_open"] for row in rows)

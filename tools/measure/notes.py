@@ -1,9 +1,14 @@
 """What must be said beside the figures of jobs, or beside a picture of them."""
 from __future__ import annotations
 
+from view.lines import Killed, Return
+
 from .jobs import SLEEP, NamesNothing, in_its_first_job
 from .measures import Measure, Table, jobs_of, lost_signal
 from .seen import Seen
+
+NO_EFFECT = ("EDEADLK", "EINVAL", "EMSGSIZE", "EOVERFLOW", "EPERM")
+"""The answers of a call that was wrong by itself: not those of one that found nothing, or came late."""
 
 
 def notes_of(seen: Seen, measures: list[Measure]) -> list[str]:
@@ -16,6 +21,40 @@ def notes_of(seen: Seen, measures: list[Measure]) -> list[str]:
             raise NamesNothing(f"measure '{measure.name}': {wrong}") from None
         found += filter(None, notes)
     return found
+
+
+def without_effect(seen: Seen) -> dict[tuple[str, str], list[Return]]:
+    """The calls that were refused, by their names and answers."""
+    found: dict[tuple[str, str], list[Return]] = {}
+    for event in seen.trace.events:
+        if type(event) is Return and event.result in NO_EFFECT:
+            found.setdefault((event.call, event.result), []).append(event)
+    return found
+
+
+def kills(seen: Seen) -> list[Killed]:
+    return [event for event in seen.trace.events if type(event) is Killed]
+
+
+def told_of_many(seen: Seen) -> list[str]:
+    """What a reader of the figures of many runs must know of one, in words that are the same for each such run."""
+    return [*(f"'{call}' answered {result} and had no effect" for call, result in without_effect(seen)),
+            *(f"{event.signal} killed the process before the horizon" for event in kills(seen))]
+
+
+def notes_of_run(seen: Seen) -> list[str]:
+    """What a reader of any figure must know: calls without an effect, an early end, and that the threads are not told."""
+    notes = [f"'{call}' answered {result} {count_of(len(times))} and had no effect, first to '{times[0].name}' at {times[0].time} (docs/CALLS.md)"
+             for (call, result), times in without_effect(seen).items()]
+    notes += [f"{event.signal} killed the process at {event.time}, and the run ends there: a thread let it through, and no line "
+              f"'action {event.signal}' says what else it does" for event in kills(seen)]
+    if not seen.closing:
+        notes.append("the trace has no closing lines, as 'thread NAME ticks N' behind its end, so the tables have no threads and servers")
+    return notes
+
+
+def count_of(times: int) -> str:
+    return "once" if times == 1 else f"{times} times"
 
 
 def ends_by(measure: Measure) -> str:

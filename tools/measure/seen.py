@@ -45,12 +45,11 @@ class Blocked:
 class Seen:
     """A trace that is measured. What a measure asks for is put together once, and only where one asks for it."""
 
-    def __init__(self, trace: Trace) -> None:
+    def __init__(self, trace: Trace, is_detail: bool = False) -> None:
+        """A detail of a run in which no thread has started has no facts, and whoever asked for it knows what it is."""
         self.trace = trace
-
-    @property
-    def is_detail(self) -> bool:
-        return bool(self.trace.facts)
+        self.is_detail = is_detail or bool(trace.facts)
+        self._states: dict[str, list[tuple[int, int, ThreadFact]]] = {}
 
     @cached_property
     def facts(self) -> Facts:
@@ -125,9 +124,11 @@ class Seen:
 
     def states(self, name: str) -> list[tuple[int, int, ThreadFact]]:
         """The state of a thread, from where up to where, from its first change on."""
-        changes = self.facts.thread(name)
-        ends = [time for time, _ in changes[1:]] + [self.end]
-        return [(start, end, state) for (start, state), end in zip(changes, ends) if end > start]
+        if name not in self._states:
+            changes = self.facts.thread(name)
+            ends = [time for time, _ in changes[1:]] + [self.end]
+            self._states[name] = [(start, end, state) for (start, state), end in zip(changes, ends) if end > start]
+        return self._states[name]
 
     def blocked(self, name: str) -> list[Blocked]:
         """The stretches in which a thread is blocked, one for each call."""

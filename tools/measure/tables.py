@@ -80,7 +80,8 @@ def servers_table(seen: Seen) -> Table:
         capacity = capacity_of(seen, name)
         waits = capacity.refill_waits
         used = "" if capacity.used is None or not capacity.had else share(capacity.used, capacity.had)
-        table.rows.append([name, shown(capacity.used), shown(capacity.had), used, str(capacity.exhausted), str(sum(waits)), str(max(waits, default=0))])
+        told = ["", ""] if waits is None else [str(sum(waits)), str(max(waits, default=0))]
+        table.rows.append([name, shown(capacity.used), shown(capacity.had), used, str(capacity.exhausted), *told])
     return table
 
 

@@ -176,6 +176,12 @@ def _body(declaration: object) -> Block:
     return kind.body if isinstance(kind, (ThreadKind, HandlerKind, CleanupKind)) else []
 
 
+def _no_period(call: Call) -> str:
+    """What a sleep up to a number lacks of a period."""
+    is_fixed = call.word == "clock_nanosleep" and call.operands[0].number is not None
+    return ", up to one fixed instant; a period is an 'add' and a 'clock_nanosleep reg' in each pass" if is_fixed else ""
+
+
 def _task(script: Script, name: str, kind: ThreadKind, is_created: bool, costs: Costs) -> Task:
     priority = kind.policy.priority if isinstance(kind.policy, (Fifo, Rr)) else kind.policy.high
     task = Task(name, priority, kind.start or 0)
@@ -189,9 +195,9 @@ def _task(script: Script, name: str, kind: ThreadKind, is_created: bool, costs: 
         if part is not None:
             fill_periodic(task, *part, costs)
         else:
-            waits = [call.word for call in calls_in(kind.body) if may_wait(call)]
+            waits = [call for call in calls_in(kind.body) if may_wait(call)]
             if waits:
-                raise NoTask(f"it waits in '{waits[0]}'")
+                raise NoTask(f"it waits in '{waits[0].word}'{_no_period(waits[0])}")
             task.cost = costs.of(kind.body) + 1
         if not 1 <= task.cost <= GREATEST_COST:
             raise NoTask(f"a job may take more than {GREATEST_COST} ticks")

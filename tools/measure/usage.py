@@ -1,6 +1,7 @@
 """What threads and servers used: ticks, preemptions, waits by object, time at each priority, capacity."""
 from __future__ import annotations
 
+from bisect import bisect
 from collections import defaultdict
 from dataclasses import dataclass
 
@@ -37,7 +38,7 @@ class Capacity:
     used: int | None
     had: int | None
     exhausted: int
-    refill_waits: list[int]
+    refill_waits: list[int] | None
 
 
 def ticks_of(seen: Seen, name: str) -> int:
@@ -110,31 +111,47 @@ def is_server(seen: Seen, name: str) -> bool:
     return bool(seen.of(name, Activate, Exhaust, Refill)) or (name in seen.closing and seen.closing[name].budget is not None)
 
 
+def changes_of_policy(seen: Seen) -> list[int]:
+    """The lines of each `setsched` that came true. None says of which thread it is, nor which policy."""
+    return [call.line for call in seen.returned if call.event.call == "setsched" and call.event.result == "0"]
+
+
+def silent_changes(seen: Seen) -> list[int]:
+    """Those behind which no new server is activated."""
+    return [line for line in changes_of_policy(seen) if not any(isinstance(event, Activate) for event in seen.trace.events[line + 1:line + 2])]
+
+
 def high_ticks(seen: Seen, name: str) -> int | None:
     """The ticks at high priority over the thread's whole life; None where the trace does not tell them.
 
-    The closing line tells them where its server is the first one, else the stretches in which the thread ran. A `setsched`
-    does not say of which thread it is, nor which policy: only where a new server is activated behind it is that told.
+    The closing line tells them where its server is the first one, else the stretches in which the thread ran. What a `setsched`
+    does is told only where a new server is activated behind it.
     """
     closing = seen.closing.get(name)
-    changes = [call.line for call in seen.returned if call.event.call == "setsched" and call.event.result == "0"]
-    if closing is None or not all(isinstance(seen.trace.events[line + 1], Activate) for line in changes):
+    if closing is None or silent_changes(seen):
         return None
-    if closing.budget and not changes:
+    if closing.budget and not changes_of_policy(seen):
         return closing.budget.high
     return next(thread for thread in timeline_of(seen.trace).threads if thread.name == name).high_ticks
 
 
-def refill_waits(seen: Seen, name: str) -> list[int]:
-    """From each exhaustion to what ends it: the refill that follows, new parameters, the end of the thread, or that of the run."""
-    since, waits = None, []
-    for event in seen.of(name, Exhaust, Refill, Activate, Exit):
-        if isinstance(event, Exhaust):
-            since = event.time
-        elif since is not None:
-            waits.append(event.time - since)
-            since = None
-    return waits if since is None else waits + [seen.end - since]
+def refill_waits(seen: Seen, name: str) -> list[int] | None:
+    """From each exhaustion to what ends it: the refill that follows, new parameters, the end of the thread, or that of the run.
+
+    New parameters that activate no server have no line of the thread. A detail tells them, for the pending replenishments are gone;
+    of a trace the waits are then None.
+    """
+    lines = sorted(line for kind in (Refill, Activate, Exit) for line in seen.places.get((kind, name), ()))
+    gone = [time for time, pending in seen.facts.changes("pending", name) if not pending]
+    silent = [] if seen.is_detail else silent_changes(seen)
+    waits = []
+    for exhausted in seen.places.get((Exhaust, name), ()):
+        since, behind = seen.trace.events[exhausted].time, lines[bisect(lines, exhausted):][:1]
+        if any(exhausted < line < min(behind, default=line + 1) for line in silent):
+            return None
+        ends = [seen.trace.events[line].time for line in behind] + gone[bisect(gone, since):][:1]
+        waits.append(min(ends, default=seen.end) - since)
+    return waits
 
 
 def capacity_of(seen: Seen, name: str) -> Capacity:

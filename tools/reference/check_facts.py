@@ -22,7 +22,6 @@ from simulate import answer
 FACT_WORDS = frozenset((
     "list", "thread", "frames", "mask", "cancelability", "cleanups", "pending", "mutex", "waiters", "sem", "messages",
     "senders", "receivers", "notify", "timer", "signal"))
-NUMBER_WORDS = frozenset(("now", "left", "slice", "budget"))
 
 
 def is_fact(line: str) -> bool:

@@ -7,7 +7,6 @@ import shlex
 import shutil
 import signal
 import subprocess
-import sys
 import time
 from enum import IntEnum
 from pathlib import Path
@@ -20,10 +19,12 @@ from .groups import columns_of, grouped, lined_up
 from .plan import Sweep, WrongSweep, read_sweep
 from .plot import NoPlot, draw, gnuplot
 from .table import Kept, read_table, table
-from .unfinished import Ended, behind_an_end, hidden, measured, none_done, nothing_done
+from .told import of_runs, refusals
+from .unfinished import behind_an_end, hidden, none_done, nothing_done
 
 TOOL = "pse52-sweep"
 TOP = Path(__file__).resolve().parents[2]
+WRAPPER = TOP / "bin" / "pse52"
 
 
 class Status(IntEnum):
@@ -71,18 +72,22 @@ def words_of(words: list[str]) -> argparse.Namespace:
 
 
 def program_of(said: str | None) -> list[str]:
-    """The words of the program. That of this repository is started without its wrapper; where there is none, the wrapper says why."""
+    """The words of the program. That of this repository is started without its wrapper, so that rows are kept of the program that ran
+    and not of the wrapper; where there is none, the wrapper says why."""
+    words = [str(WRAPPER)]
     if said:
         try:
             words = shlex.split(said)
         except ValueError as wrong:
             raise NoProgram(f"--program {said}: {wrong}") from wrong
-        if not words or shutil.which(words[0]) is None:
+        path = shutil.which(words[0]) if words else None
+        if path is None:
             raise NoProgram(f"'{said}' is no program that can be started")
-        return [str(Path(word).resolve()) if os.sep in word and Path(word).exists() else word for word in words]
-    ended = subprocess.run(["sh", str(TOP / "bin" / "pse52"), "--which"], stdout=subprocess.PIPE, text=True, check=False)
+        if Path(path).resolve() != WRAPPER:
+            return [str(Path(word).resolve()) if os.sep in word and Path(word).exists() else word for word in words]
+    ended = subprocess.run(["sh", str(WRAPPER), *words[1:], "--which"], stdout=subprocess.PIPE, text=True, check=False)
     if ended.returncode != 0:
-        raise NoProgram(f"--program '{TOP}/bin/pse52 --released' runs the release, --program 'python3 {TOP}/tools/reference/simulate.py' the reference")
+        raise NoProgram(f"--program '{WRAPPER} --released' runs the release, --program 'python3 {TOP}/tools/reference/simulate.py' the reference")
     return [ended.stdout.rstrip("\n")]
 
 
@@ -119,7 +124,7 @@ def _span(seconds: float) -> str:
     return f"{seconds / 60:.0f} min" if seconds < 6000 else f"{seconds / 3600:.1f} h"
 
 
-def carry_out(sweep: Sweep, said: argparse.Namespace, program: list[str]) -> tuple[Path, Ended]:
+def carry_out(sweep: Sweep, said: argparse.Namespace, program: list[str]) -> tuple[Path, Kept]:
     """Carries out the runs that are not done yet, and writes the table. The rows stay, so that the same words need no run again."""
     kept_file = sweep.beside(said.output, ".rows")
     if said.anew:
@@ -138,7 +143,7 @@ def carry_out(sweep: Sweep, said: argparse.Namespace, program: list[str]) -> tup
     again = sum(not sweep.lasts(row) for row in kept.rows.values())
     if again:
         say(TOOL, f"runs that something ended from outside, as their rows say: {again}; the same words do them again")
-    return path, kept.ended
+    return path, kept
 
 
 def over_of(sweep: Sweep, said: str | None) -> list[str]:
@@ -148,7 +153,7 @@ def over_of(sweep: Sweep, said: str | None) -> list[str]:
     else:
         several = [name for name in sweep.names if len(sweep.values[name]) > 1][:2] or sweep.names[:1]
         names = sorted(several, key=lambda name: len(sweep.values[name]), reverse=True)
-    if len(names) > 2 or any(name not in sweep.values for name in names):
+    if len(names) > 2 or len(set(names)) < len(names) or any(name not in sweep.values for name in names):
         raise WrongSweep(f"--over is one or two of {', '.join(sweep.names)}")
     return names
 
@@ -156,16 +161,10 @@ def over_of(sweep: Sweep, said: str | None) -> list[str]:
 def complaints(rows: list[dict[str, str]], misnamed: list[Measure]) -> list[str]:
     """What is wrong with the measures as the runs show it: the first fault of a run that was measured, and measures that name no end of a job."""
     faults = [row["fault"] for row in rows if row["status"] == "0" and row["fault"]]
-    found = [f"{len(faults)} of {len(rows)} runs could not be measured; the first: {faults[0]}"] if faults else []
-    if not measured(rows) and not faults:
+    found = [f"{len(faults)} of {len(rows)} runs lack figures; the first: {faults[0]}"] if faults else []
+    if all(row["status"] != "0" for row in rows):
         found.append("no run ended with a trace, so nothing is measured")
     return found + [f"measure '{measure.name}': in no run a job is done; does 'to' name what comes?" for measure in misnamed]
-
-
-def refusals(rows: list[dict[str, str]]) -> str | None:
-    """How many runs had no trace, and what the first one said."""
-    faults = [row["fault"] for row in rows if row["status"] != "0"]
-    return f"{len(faults)} of {len(rows)} runs have no trace; the first says: {faults[0]}" if faults else None
 
 
 def put(text: str) -> bool:
@@ -185,21 +184,21 @@ def carried_out(said: argparse.Namespace) -> Status:
         if name not in columns_of(sweep.measures):
             raise WrongSweep(f"--columns: '{name}' cannot be put together; there are {', '.join(columns_of(sweep.measures))}")
     if said.plot is not None:
-        if said.plot not in sweep.columns:
-            raise WrongSweep(f"no column has the name '{said.plot}'; there are {', '.join(sweep.columns)}")
+        figures = [column for column in sweep.columns if column != "fault"]
+        if said.plot not in figures:
+            raise WrongSweep(f"no column of figures has the name '{said.plot}'; there are {', '.join(figures)}")
         gnuplot()
     for warning in filter(None, (measure.warning for measure in sweep.measures)):
         say(TOOL, warning)
     program = program_of(said.program)
-    path, ended = carry_out(sweep, said, program)
+    path, kept = carry_out(sweep, said, program)
     rows = read_table(path)
     written = put(f"{path}\n")
     if by:
         written = written and put(lined_up(grouped(rows, by, sweep.measures, columns)))
-    if refused := refusals(rows):
-        say(TOOL, refused)
     undone = list(none_done(sweep, rows, program))
-    for note in [*hidden(sweep, rows, ended), *behind_an_end(sweep, rows, ended), *(nothing_done(measure) for measure, starved in undone if starved)]:
+    for note in [*refusals(sweep, rows), *of_runs(sweep, kept.told), *hidden(sweep, rows, kept.ended), *behind_an_end(sweep, rows, kept.ended),
+                 *(nothing_done(measure) for measure, starved in undone if starved)]:
         say(TOOL, note)
     if wrong := complaints(rows, [measure for measure, starved in undone if not starved]):
         raise NamedNothing("; ".join(wrong))

@@ -6,12 +6,13 @@ import json
 import math
 import re
 import tomllib
+from collections import Counter
 from collections.abc import Iterator
 from dataclasses import dataclass
 from pathlib import Path
 
 from measure.measures import PLACE as WHOLE_PLACE
-from measure.measures import NUMBERS, Measure, WrongMeasure, measure_of
+from measure.measures import NUMBERS, Measure, WrongMeasure, measures_in
 
 MOST_RUNS = 1_000_000
 GREATEST_NUMBER = 10**18
@@ -23,7 +24,7 @@ RESERVED = ("status", "fault")
 LASTING = frozenset(("0", "1", "2", "3"))
 # What measures a trace.
 TOOLS = Path(__file__).parents[1]
-MEASURING = [*(TOOLS / "measure" / f"{name}.py" for name in ("measures", "jobs", "notes", "usage", "seen")),
+MEASURING = [TOOLS / "sweep" / "worker.py", *(TOOLS / "measure" / f"{name}.py" for name in ("measures", "jobs", "notes", "usage", "seen")),
              *(TOOLS / "view" / f"{name}.py" for name in ("lines", "facts", "seen", "timeline", "tracks"))]
 
 
@@ -114,11 +115,18 @@ class Sweep:
     def identity(self, program: list[str]) -> str:
         """Two sweeps with the same identity have the same rows, so the one may go on where the other stopped.
 
-        Of the program it has the words, and the content of those that are files; and the content of what measures.
+        Of the program it has the words, and the content of those that are files, of Python with the modules beside them; and the
+        content of what measures.
         """
-        files = [hashlib.sha256(path.read_bytes()).hexdigest() for path in (*map(Path, program), *MEASURING) if path.is_file()]
+        parts = [part for word in program for part in parts_of(Path(word))]
+        files = [hashlib.sha256(path.read_bytes()).hexdigest() for path in (*parts, *MEASURING) if path.is_file()]
         told = [self.template, self.horizon, list(self.values.items()), [measure.words for measure in self.measures], program, files]
         return hashlib.sha256(json.dumps(told).encode()).hexdigest()
+
+
+def parts_of(file: Path) -> list[Path]:
+    """The files of which a part of a program is: itself, and of Python the modules beside it, which it may import."""
+    return sorted({file, *file.parent.glob("*.py")}) if file.suffix == ".py" else [file]
 
 
 def filled(template: str, values: dict[str, int]) -> str:
@@ -140,6 +148,7 @@ def read_sweep(path: Path) -> Sweep:
     values = _values(said.get("values", {}))
     sweep = Sweep(path.parent, path.stem, template, _horizon(said.get("horizon")), values, _measures(said.get("measure", [])))
     _places(sweep)
+    _threads(sweep)
     if sweep.count > MOST_RUNS:
         raise WrongSweep(f"the grid has {sweep.count} runs, and a sweep at most {MOST_RUNS}")
     columns = sweep.columns
@@ -183,6 +192,9 @@ def _values(said: object) -> dict[str, list[int]]:
         values[name] = _range(name, choice) if isinstance(choice, dict) else choice
         if not isinstance(values[name], list) or not values[name] or not all(map(_is_number, values[name])):
             raise WrongSweep(f"'{name}' is a list of numbers, or has from, to and step")
+        for value, times in Counter(values[name]).items():
+            if times > 1:
+                raise WrongSweep(f"'{name}' has {value} {times} times, and each of its runs would count as often")
     return values
 
 
@@ -197,10 +209,8 @@ def _range(name: str, choice: dict) -> list[int]:
 
 
 def _measures(said: object) -> list[Measure]:
-    if not isinstance(said, list) or not all(isinstance(table, dict) for table in said):
-        raise WrongSweep("what is measured stands in tables [[measure]]")
     try:
-        return [measure_of(table) for table in said]
+        return measures_in(said)
     except WrongMeasure as wrong:
         raise WrongSweep(str(wrong)) from None
 
@@ -219,3 +229,20 @@ def _places(sweep: Sweep) -> None:
         for key in NUMBERS.keys() & {key for key, word in measure.words.items() if isinstance(word, str)}:
             if min(sweep.values[measure.words[key][1:-1]]) < NUMBERS[key]:
                 raise WrongSweep(f"measure '{measure.name}': '{key}' is a number of at least {NUMBERS[key]}, and {measure.words[key]} may be less")
+
+
+def _threads(sweep: Sweep) -> None:
+    """Each thread that a measure names is one of the script, at some values at least."""
+    lines = [line.split("#")[0].split() for line in sweep.template.split("\n")]
+    there = [words[1] for words in lines if words[:1] == ["thread"] and len(words) > 1]
+    forms = [_form(name, sweep.values) for name in there]
+    for measure in sweep.measures:
+        for name in measure.threads:
+            if not any(form.fullmatch(name) for form in forms):
+                raise WrongSweep(f"measure '{measure.name}': the script has no thread '{name}'; it has {', '.join(there) or 'none'}")
+
+
+def _form(name: str, values: dict[str, list[int]]) -> re.Pattern[str]:
+    """What a name in the script may be, where a number of the grid may stand in it."""
+    parts = PLACE.split(name)
+    return re.compile("".join(f"(?:{'|'.join(map(str, values[part]))})" if at % 2 else re.escape(part) for at, part in enumerate(parts)))

@@ -5,7 +5,7 @@ import csv
 import io
 import json
 import os
-from collections.abc import Callable
+from collections.abc import Callable, Sequence
 from pathlib import Path
 
 Rows = dict[int, list[str]]
@@ -15,12 +15,13 @@ class Kept:
     """The file of the rows that have come. Its first line says of which sweep; a last line that is not whole does not count.
 
     Nor does a row that does not last: its run is to be done again. `ended` has of each run the measures whose thread ended behind a
-    release.
+    release, and `told` what else a reader of its figures must know.
     """
 
     def __init__(self, path: Path, identity: str, lasts: Callable[[list[str]], bool]) -> None:
         self._path, self._lasts = path, lasts
-        self.ended: dict[int, list[str]] = {}
+        self.ended: dict[int, Sequence[str]] = {}
+        self.told: dict[int, Sequence[str]] = {}
         self.rows: Rows = self._read(identity)
         fresh = not self.rows
         self._file = path.open("w" if fresh else "r+")
@@ -44,18 +45,21 @@ class Kept:
             if not line.endswith(b"\n") or (number == 0 and said != {"sweep": identity}):
                 break
             if number > 0 and self._lasts(said[1]):
-                rows[said[0]] = said[1]
-                self.ended[said[0]] = said[2] if len(said) > 2 else []
+                rows[said[0]] = self._beside(*said)
             self._size += len(line)
         return rows
 
     def add(self, line: str) -> None:
         """Keeps a row as it came."""
-        number, row, *ended = json.loads(line)
-        self.rows[number] = row
-        self.ended[number] = ended[0] if ended else []
+        said = json.loads(line)
+        self.rows[said[0]] = self._beside(*said)
         self._file.write(line if line.endswith("\n") else line + "\n")
         self._file.flush()
+
+    def _beside(self, number: int, row: list[str], ended: Sequence[str] = (), told: Sequence[str] = ()) -> list[str]:
+        """Keeps what came beside a row, and gives the row."""
+        self.ended[number], self.told[number] = ended, told
+        return row
 
     def close(self) -> None:
         self._file.close()

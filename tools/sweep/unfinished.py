@@ -1,7 +1,7 @@
 """What a sweep says of jobs that are not done at the end, of which no response time tells."""
 from __future__ import annotations
 
-from collections.abc import Iterator
+from collections.abc import Iterator, Sequence
 
 from measure.measures import Measure, filled, never_done
 from measure.notes import ends_by, is_starved
@@ -13,7 +13,7 @@ from .worker import Streams
 
 Rows = list[dict[str, str]]
 # Of each run the measures whose thread ended behind a release, with a job there that is not done.
-Ended = dict[int, list[str]]
+Ended = dict[int, Sequence[str]]
 
 
 def behind_an_end(sweep: Sweep, rows: Rows, ended: Ended) -> Iterator[str]:
@@ -41,14 +41,11 @@ def hidden(sweep: Sweep, rows: Rows, ended: Ended | None = None) -> Iterator[str
                    f"and '{greatest}' and the other response times do not")
 
 
-def measured(rows: Rows) -> Rows:
-    return [row for row in rows if row["status"] == "0" and not row["fault"]]
-
-
 def none_done(sweep: Sweep, rows: Rows, program: list[str]) -> Iterator[tuple[Measure, bool]]:
     """The measures of which in no run a job is done, and whether that is so since the thread of the first such run is starved."""
     for measure in sweep.measures:
-        if measured(rows) and never_done(measure, measured(rows)):
+        told = [row for row in rows if row.get(f"{measure.name}_jobs")]
+        if told and never_done(measure, told):
             begun = [number for number, row in enumerate(rows) if row[f"{measure.name}_jobs"] not in ("", "0")]
             yield measure, bool(begun) and _is_starved(sweep, begun[0], measure, program)
 
@@ -64,4 +61,4 @@ def _is_starved(sweep: Sweep, number: int, measure: Measure, program: list[str])
     with Streams() as streams:
         status, told, _ = streams.run([*program, sweep.command, str(sweep.horizon_of(run))], sweep.script(run).encode())
     filled_in = Measure(filled(measure.words, sweep.values_of(run)), measure.columns, measure.needs_detail, measure.read)
-    return status == 0 and is_starved(Seen(read_trace(told.splitlines(keepends=True))), filled_in)
+    return status == 0 and is_starved(Seen(read_trace(told.splitlines(keepends=True)), sweep.command == "detail"), filled_in)

@@ -18,66 +18,103 @@ sys.path.insert(0, str(Path(__file__).resolve().parents[1]))
 
 from measure.jobs import NamesNothing  # noqa: E402
 from measure.measures import filled  # noqa: E402
-from measure.notes import ends_behind_a_release  # noqa: E402
+from measure.notes import ends_behind_a_release, told_of_many  # noqa: E402
 from measure.seen import Seen  # noqa: E402
 from sweep.plan import Run, Sweep, read_sweep  # noqa: E402
-from view.lines import NotATraceLine, read_trace  # noqa: E402
+from view.lines import NotATraceLine, TooManyLines, read_trace, written_by  # noqa: E402
 
 NOT_STARTED = 127
 LONGEST_FAULT = 200
 
 
 class Streams:
-    """The standard streams of the runs: three files, each run's in turn.
+    """The standard streams of the runs: two files, each run's in turn, and a pipe, so that a run that writes too much is ended early.
 
-    A short run costs less so than with pipes, where somebody has to wait at both ends.
+    A short run costs less so than with three pipes, where somebody has to wait at all ends.
     """
 
     def __init__(self) -> None:
-        self._files = [TemporaryFile(buffering=0) for _ in range(3)]
-        self._actions = [(os.POSIX_SPAWN_DUP2, file.fileno(), number) for number, file in enumerate(self._files)]
+        self._source, self._said = (TemporaryFile(buffering=0) for _ in range(2))
         self._environment = dict(os.environb)
 
     def __enter__(self) -> Streams:
         return self
 
     def __exit__(self, *_: object) -> None:
-        for file in self._files:
-            file.close()
+        self._source.close()
+        self._said.close()
 
     def run(self, words: list[str], script: bytes) -> tuple[int, bytes, bytes]:
-        """The exit status of a program, less than 0 where a signal killed it, what it wrote, and what it wrote as errors."""
-        for file in self._files:
+        """The exit status of a program, less than 0 where a signal killed it, what it wrote, and what it wrote as errors.
+
+        Raises TooManyLines, and OSError where it cannot be started.
+        """
+        for file in (self._source, self._said):
             file.seek(0)
             file.truncate()
-        source, told, said = self._files
-        source.write(script)
-        source.seek(0)
-        process = os.posix_spawnp(words[0], words, self._environment, file_actions=self._actions)
-        status = os.waitstatus_to_exitcode(os.waitpid(process, 0)[1])
-        return status, _content(told.fileno()), _content(said.fileno())
+        self._source.write(script)
+        self._source.seek(0)
+        process, pipe = self._started(words)
+        try:
+            with open(pipe, "rb", buffering=0) as told:
+                text = written_by(told)
+        except TooManyLines:
+            os.kill(process, signal.SIGKILL)
+            raise
+        finally:
+            status = os.waitstatus_to_exitcode(os.waitpid(process, 0)[1])
+        return status, text, os.pread(self._said.fileno(), os.fstat(self._said.fileno()).st_size, 0)
+
+    def _started(self, words: list[str]) -> tuple[int, int]:
+        """The number of a process that runs these words, and the end of the pipe that has what it writes."""
+        reads, writes = os.pipe()
+        streams = self._source.fileno(), writes, self._said.fileno()
+        actions = [(os.POSIX_SPAWN_DUP2, stream, number) for number, stream in enumerate(streams)]
+        try:
+            return os.posix_spawnp(words[0], words, self._environment, file_actions=actions), reads
+        except OSError:
+            os.close(reads)
+            raise
+        finally:
+            os.close(writes)
 
 
-def _content(file: int) -> bytes:
-    return os.pread(file, os.fstat(file).st_size, 0)
-
-
-def row_of(sweep: Sweep, run: Run, program: list[str], streams: Streams) -> tuple[list[str], list[str]]:
-    """The row of a run: its values, the exit status, its fault, and the figures; and the measures whose thread ended behind a release."""
+def row_of(sweep: Sweep, run: Run, program: list[str], streams: Streams) -> tuple[list[str], list[str], list[str]]:
+    """The row of a run: its values, the exit status, its fault, and the figures; the measures whose thread ended behind a release; and
+    what else is told of the run."""
     try:
         status, told, said = streams.run([*program, sweep.command, str(sweep.horizon_of(run))], sweep.script(run).encode())
+    except TooManyLines as wrong:
+        return [*map(str, run.values), "0", str(wrong), *[""] * sweep.figures], [], []
     except OSError as error:
         status, told, said = NOT_STARTED, b"", f"{program[0]}: {error.strerror}".encode()
     fault = fault_of(status, told, said)
-    figures, ended = [""] * sweep.figures, []
+    figures, ended, notes = [""] * sweep.figures, [], []
     if status == 0:
         try:
-            seen, values = Seen(read_trace(told.splitlines(keepends=True))), sweep.values_of(run)
-            figures = [figure for measure in sweep.measures for figure in measure.figures(seen, values)]
-            ended = [measure.name for measure in sweep.measures if ends_behind_a_release(seen, filled(measure.words, values))]
-        except (NotATraceLine, NamesNothing) as wrong:
+            seen = Seen(read_trace(told.splitlines(keepends=True)), sweep.command == "detail")
+            figures, fault, ended = measured(sweep, seen, sweep.values_of(run))
+            notes = told_of_many(seen)
+        except NotATraceLine as wrong:
             fault = str(wrong)
-    return [*map(str, run.values), str(status), fault, *figures], ended
+    return [*map(str, run.values), str(status), fault, *figures], ended, notes
+
+
+def measured(sweep: Sweep, seen: Seen, values: dict[str, int]) -> tuple[list[str], str, list[str]]:
+    """The figures of all measures, why some have none, and the measures whose thread ended behind a release.
+
+    The cells of a measure that has none are empty, and those of the others stand.
+    """
+    figures, faults, ended = [], [], []
+    for measure in sweep.measures:
+        try:
+            figures += measure.figures(seen, values)
+        except NamesNothing as wrong:
+            figures += [""] * len(measure.columns)
+            faults.append(str(wrong))
+        else:
+            ended += [measure.name] if ends_behind_a_release(seen, filled(measure.words, values)) else []
+    return figures, "; ".join(faults), ended
 
 
 def fault_of(status: int, told: bytes, said: bytes) -> str:

@@ -6,6 +6,7 @@ is told by points: `ticks[i]` is the instant of point i as text, and `places[i]`
 from __future__ import annotations
 
 import json
+import re
 from pathlib import Path
 from xml.sax.saxutils import escape
 
@@ -46,15 +47,13 @@ class Points:
 
 def draw(timeline: Timeline) -> str:
     data = json.dumps(data_of(timeline), separators=(",", ":")).replace("<", "\\u003c")
-    page = _file("page.html")
     script = "".join(_file(name) for name in SCRIPTS)
-    for name, text in (("STYLE", _file("page.css")), ("SCRIPT", script), ("TITLE", escape(heading(timeline))), ("DATA", data)):
-        page = page.replace(f"@{name}@", text, 1)
-    return page
+    parts = {"@STYLE@": _file("page.css"), "@SCRIPT@": script, "@TITLE@": escape(heading(timeline)), "@DATA@": data}
+    return re.sub("|".join(parts), lambda place: parts[place[0]], _file("page.html"))
 
 
 def _file(name: str) -> str:
-    return (PAGE / name).read_text()
+    return (PAGE / name).read_text(encoding="utf-8")
 
 
 def data_of(timeline: Timeline) -> dict[str, object]:

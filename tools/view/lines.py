@@ -8,7 +8,7 @@ from __future__ import annotations
 
 import re
 from collections.abc import Callable, Iterable
-from typing import NamedTuple
+from typing import BinaryIO, NamedTuple
 
 from .facts import FORMS as FACT_FORMS
 from .facts import Fact, WrongFact, fact_of
@@ -17,6 +17,9 @@ GREATEST_TIME = 10**18
 GREATEST_DUE = 2 * 10**18
 GREATEST_VALUE = 2**64 - 1
 LONGEST_LINE = 256
+# So many lines take 0.9 to 3.8 GB of memory, by what is made of them: 350 to 1,500 bytes a line.
+MOST_LINES = 2_500_000
+PART = 1 << 20
 
 RESULTS = frozenset((
     "0", "EAGAIN", "EBUSY", "EDEADLK", "EINTR", "EINVAL", "EMSGSIZE", "EOVERFLOW", "EPERM", "ESRCH", "ETIMEDOUT"))
@@ -137,6 +140,13 @@ class NotATraceLine(Exception):
 
     def __str__(self) -> str:
         return f"line {self.number} is no trace line, since {self.why}" + (f": {self.text}" if self.text else "")
+
+
+class TooManyLines(Exception):
+    """There are more lines than are read."""
+
+    def __str__(self) -> str:
+        return f"the run has more than {MOST_LINES} lines, and no more are read; take a nearer horizon"
 
 
 class _Wrong(Exception):
@@ -316,11 +326,13 @@ class _Reader:
 def read_trace(lines: Iterable[bytes], tell: Callable[[int, int], None] | None = None) -> Trace:
     """Reads a whole trace or detail, or its beginning where a write failed. `tell` hears the lines and bytes read, now and then.
 
-    Raises NotATraceLine for the first line that no trace has at its place, and for a text without a line.
+    Raises NotATraceLine for the first line that no trace has at its place, and for a text without a line, and TooManyLines.
     """
     reader, events, texts, size = _Reader(), [], [], 0
     facts: list[Fact] = []
     for number, line in enumerate(lines, 1):
+        if number > MOST_LINES:
+            raise TooManyLines
         text = line.rstrip(b"\n").decode("ascii", "backslashreplace")
         try:
             event = reader.event(text, len(events))
@@ -337,6 +349,17 @@ def read_trace(lines: Iterable[bytes], tell: Callable[[int, int], None] | None =
     if not events:
         raise NotATraceLine(1, "", "the text is empty")
     return Trace(events, texts, facts)
+
+
+def written_by(program: BinaryIO) -> bytes:
+    """All that a program writes into a pipe. Raises TooManyLines as soon as that is more than is read."""
+    parts, lines = [], 0
+    while part := program.read(PART):
+        parts.append(part)
+        lines += part.count(b"\n")
+        if lines > MOST_LINES:
+            raise TooManyLines
+    return b"".join(parts)
 
 
 def shown(text: str) -> str:

@@ -14,7 +14,7 @@ from command import Status, Usage, Words, carried_out, number_of_ticks, say, wri
 from measure.jobs import NamesNothing
 from measure.measures import WrongMeasure, measure_of_words
 
-from .lines import NotATraceLine, Trace, read_trace
+from .lines import NotATraceLine, TooManyLines, Trace, read_trace
 from .progress import Progress
 from .releases import mark_jobs
 from .source import NoSource, given
@@ -93,6 +93,7 @@ def traced(said: argparse.Namespace, progress: Progress) -> tuple[Trace, str]:
     """What is drawn, and its title where it has one: a script is run for its detail."""
     path = said.script or said.file
     found = given(path, said.script is not None, said.horizon, TOOL, lambda: progress.say("running the script"))
+    progress.reads(found.lines)
     return read_trace(found.lines, progress.lines), path.stem if found.script is not None and path and path != Path("-") else ""
 
 
@@ -125,4 +126,4 @@ def main(words: list[str]) -> int:
         finally:
             progress.done()
         return write(TOOL, text)
-    return carried_out(TOOL, work, dict.fromkeys((NotATraceLine, NoSource, NoWindow, NamesNothing, WrongMeasure), Status.REFUSED))
+    return carried_out(TOOL, work, dict.fromkeys((NotATraceLine, TooManyLines, NoSource, NoWindow, NamesNothing, WrongMeasure), Status.REFUSED))

@@ -13,8 +13,12 @@ class Progress:
 
     def __init__(self) -> None:
         self._on = overwrites()
-        self._size = _size_of_input()
+        self._size = 0
         self._shown = False
+
+    def reads(self, source: object) -> None:
+        """What is read from now on; of a file its size is known."""
+        self._size = _size_of(source)
 
     def lines(self, number: int, size: int) -> None:
         of = f", {100 * size // self._size} %" if self._size else ""
@@ -31,10 +35,10 @@ class Progress:
             self._shown = False
 
 
-def _size_of_input() -> int:
-    """The size of standard input where it is a file, else 0."""
+def _size_of(source: object) -> int:
+    """The size of what is read where it is a file, else 0."""
     try:
-        status = os.fstat(sys.stdin.fileno())
+        status = os.fstat(source.fileno())
     except (AttributeError, OSError, ValueError):
         return 0
     return status.st_size if stat.S_ISREG(status.st_mode) else 0

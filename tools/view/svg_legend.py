@@ -3,7 +3,7 @@ from __future__ import annotations
 
 from .axis import Axis
 from .svg_marks import draw_mark
-from .svg_objects import CONTENDED, OWNER, too_many
+from .svg_objects import CONTENDED, OWNER, has_shares, too_many
 from .svg_spans import draw_frame_sample, draw_low_sample, draw_wait_sample, is_dense
 from .svg_writer import FAINT, INK, Writer
 from .timeline import MarkKind, State, Timeline
@@ -114,5 +114,7 @@ def _told(out: Writer, flow: _Flow, timeline: Timeline, axis: Axis) -> None:
     if any(is_dense(thread, axis) for thread in timeline.threads):
         _item(out, flow, "heights: how much of each small column a thread runs (in its colour), is ready (pale), waits (grey)"
               + (", or a mutex is owned" if timeline.mutexes else ""), FAINT)
+    elif any(has_shares(mutex, axis) for mutex in timeline.mutexes):
+        _item(out, flow, "heights: how much of each small column a mutex is owned", FAINT)
     if timeline.wakes:
         _item(out, flow, "who wakes whom is not drawn, since it is too much" if too_many(timeline.wakes, axis) else "grey arrow: who wakes whom", FAINT)

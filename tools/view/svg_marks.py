@@ -124,7 +124,7 @@ def _stack(group: Group, r: float, taken: list[list[tuple[float, float]]], right
     group.level = MOST_LEVELS - 1
 
 
-def draw_marks(out: Writer, placed: Marks, lines: list[str], bar: float, high: float, r: float, right: float) -> None:
+def draw_marks(out: Writer, placed: Marks, lines: list[str], bar: float, r: float, right: float) -> None:
     for group in placed.groups:
         title = _title(group.marks, lines)
         if group.kind is MarkKind.RETURN:

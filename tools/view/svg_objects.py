@@ -13,14 +13,22 @@ ARROW = "#5c6675"
 LEAST_APART = 12.0
 
 
+def _as_thread(mutex: Owned) -> ThreadLine:
+    """A mutex as a thread that runs while it is owned, at priority 1 while others wait for it."""
+    return ThreadLine(mutex.name, [Span(start, end, State.RUNNING, min(waiting, 1)) for start, end, _, waiting in mutex.bars])
+
+
+def has_shares(mutex: Owned, axis: Axis) -> bool:
+    """Whether its bars stand too close to be told apart."""
+    return is_dense(_as_thread(mutex), axis)
+
+
 def draw_mutex(out: Writer, mutex: Owned, axis: Axis, y: float) -> None:
     """A bar for each owner, darker where others wait for it."""
     out.text(8, y + BAR - 2, mutex.name, size=10, fill=FAINT, title=f"the mutex {mutex.name}")
     out.line(8, y + HEIGHT - 3, axis.right, y + HEIGHT - 3, stroke="#eceef2", stroke_width="1")
-    # Where bars stand close a mutex is counted as a thread that runs while it is owned, at priority 1 while others wait for it.
-    line = ThreadLine(mutex.name, [Span(start, end, State.RUNNING, min(waiting, 1)) for start, end, _, waiting in mutex.bars])
-    if is_dense(line, axis):
-        _draw_shares(out, line, axis, y)
+    if has_shares(mutex, axis):
+        _draw_shares(out, _as_thread(mutex), axis, y)
         return
     last = -9.0
     for start, end, owner, waiting in mutex.bars:

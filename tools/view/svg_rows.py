@@ -93,6 +93,6 @@ class Rows:
         out.line(8, bottom, self._axis.right, bottom, stroke="#eceef2", stroke_width="1")
         out.text(8, bar + sizes.bar * 0.75, thread.name, size=sizes.text, weight="bold", title=f"{thread.name}: ran for {thread.ticks} ticks")
         draw_spans(out, thread, self._axis, self._colours, bar, sizes.bar, sizes.text)
-        draw_marks(out, marks, self._timeline.trace.lines, bar, sizes.bar, sizes.radius, self.right)
+        draw_marks(out, marks, self._timeline.trace.lines, bar, sizes.radius, self.right)
         if thread.is_sporadic:
             draw_server(out, thread, self._axis, bar + sizes.bar + 6, sizes.server - 16, self._timeline.start, self._timeline.end)

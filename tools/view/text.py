@@ -228,7 +228,7 @@ def ruler(columns: Columns) -> tuple[str, str]:
             if edge or (tick // part.step) % every == 0:
                 strokes[column] = "|"
                 text = str(tick)
-                if column >= free and (edge or column + len(text) < part.column + part.columns):
+                if column >= free and (edge or column + len(text) <= part.column + part.columns):
                     numbers[column:column + len(text)] = text
                     free = column + len(text) + 1
     return "".join(numbers).rstrip(), "".join(strokes)

@@ -194,11 +194,3 @@ class Timeline:
     def priorities(self) -> list[int]:
         """The priorities at which a thread ran, the highest first."""
         return sorted({s.priority for t in self.threads for s in t.spans if s.state is State.RUNNING}, reverse=True)
-
-    def running_at(self, time: int) -> ThreadLine | None:
-        """Who runs in the tick from `time` on."""
-        for thread in self.threads:
-            span = thread.span_at(time)
-            if span is not None and span.state is State.RUNNING:
-                return thread
-        return None

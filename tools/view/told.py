@@ -81,7 +81,7 @@ def goes_on(before: Span, span: Span) -> bool:
 
 def mutexes_waited_for(facts: Facts) -> set[str]:
     """The mutexes of which some fact tells, though they may not have been owned in the picture."""
-    return {state.what for name in facts.subjects("thread") for _, state in facts.thread(name) if state.call in ("lock", "timedlock")}
+    return {state.what for name in facts.subjects("thread") for _, state in facts.thread(name) if state.call in LOCKS}
 
 
 def owned_of(facts: Facts, name: str, end: int) -> Owned:

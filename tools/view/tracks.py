@@ -190,6 +190,8 @@ class Builder:
         exhausted = bool(marks) and marks[-1].kind is MarkKind.EXHAUST and marks[-1].time == event.time
         self.mark(event, MarkKind.PLAN, f"+{event.amount}")
         track.blocks = not exhausted and not self.is_strict(track)
+        track.split(event.time)
+        track.high = False
         track.line.plans.append(Planned(event.time, event.amount, event.due))
 
     def is_strict(self, track: Track) -> bool:

@@ -1,6 +1,6 @@
 # Sourced by bin/pse52: runs the program for somebody who looks on, and says on standard error what a status other than 0 means.
 
-# Runs the program. A script that comes through a pipe is kept beside, so that its faults can be shown.
+# Runs the program. What comes through a pipe is kept beside, so that its faults can be shown; not what `check` reads.
 run_and_explain() {
     kept_script=
     writes_to_pipe=
@@ -16,7 +16,7 @@ run_and_explain() {
                 kept_script=/dev/stdin
                 "$program" "$@"
                 status=$?
-            elif [ -e /dev/stdin ] && [ ! -d /dev/stdin ] && [ "$1" != check ] && [ "$1" != audit ] && folder=$(mktemp -d 2>/dev/null); then
+            elif [ -e /dev/stdin ] && [ ! -d /dev/stdin ] && [ "$1" != check ] && folder=$(mktemp -d 2>/dev/null); then
                 tell_terminal "$@"
                 kept_script=$folder/script
                 trap 'rm -rf "$folder"' EXIT
@@ -65,6 +65,15 @@ explain_refusal() {
     say "line $line is refused, $(printf '%s\n' "$refusal" | cut -d ' ' -f 4): '$words' ($page, faults)"
 }
 
+# Which line breaks which rule for which server, as tools/explain/breach.py tells it.
+explain_breach() {
+    breach=
+    [ -z "$kept_script" ] || breach=$("$program" "$@" <"$kept_script" 2>/dev/null)
+    # shellcheck disable=SC2086
+    python3 "$top/tools/explain/breach.py" ${breach#breach } "$kept_script" 2>/dev/null ||
+        say 'the trace breaks a rule of budgets: standard output has the line and the rule (docs/AUDIT.md)'
+}
+
 # One line for a status that is not 0.
 explain_status() {
     case $status in
@@ -81,7 +90,7 @@ explain_status() {
         6) say 'there was not enough memory; nothing was written' ;;
         7) say "the trace is not the script's: standard output has the first line that differs, what is due there, and what stands there" ;;
         8) say 'no line %% stands between the script and the trace' ;;
-        9) say 'the trace breaks a rule of budgets: standard output has the line and the rule (docs/AUDIT.md)' ;;
+        9) explain_breach "$@" ;;
         *) say "the program ended with the status $status" ;;
     esac
 }

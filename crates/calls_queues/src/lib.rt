@@ -5,11 +5,10 @@
 //! notification comes last.
 #![tactic(auto)]
 
-mod blocking;
+mod blocks;
 mod entries;
 mod notification;
 mod receives;
-mod sending;
 mod sends;
 mod table;
 

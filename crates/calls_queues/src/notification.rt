@@ -96,7 +96,7 @@ fn register<K: Sink>(
 }
 
 /// `mq_notify`.
-pub fn mq_notify<K: Sink>(
+pub(crate) fn mq_notify<K: Sink>(
     p: &mut Parts,
     by: &Caller<'_>,
     q: ObjId,

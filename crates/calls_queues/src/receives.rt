@@ -7,7 +7,7 @@ ghost use Rattle.kernel_state.specs.Caller.{caller};
 ghost use Rattle.calls_queues.specs.Receives.{hands_out, takes_over_from};
 ghost use Rattle.calls_queues.specs.Premises.{CanNotify, CanPass, CanTakeOver};
 
-use crate::blocking::block_unless_nonblock;
+use crate::blocks::block_unless_nonblock;
 use crate::entries::enter_and_wake;
 use kernel_state::{Caller, Parts};
 use kernel_threads::Wait;
@@ -46,7 +46,7 @@ fn hand_out<K: Sink>(
 }
 
 /// `mq_receive`, and with a time `mq_timedreceive`.
-pub fn mq_receive<K: Sink>(
+pub(crate) fn mq_receive<K: Sink>(
     p: &mut Parts,
     by: &Caller<'_>,
     q: ObjId,

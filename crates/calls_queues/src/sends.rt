@@ -12,7 +12,7 @@ ghost use Rattle.kernel_state.specs.Caller.{caller};
 ghost use Rattle.kernel_state.specs.Callers.{CanWake, IsRunning};
 ghost use Rattle.calls_queues.specs.Premises.{CanNotify, CanPass};
 
-use crate::blocking::block_unless_nonblock;
+use crate::blocks::block_unless_nonblock;
 use crate::entries::enter_and_return;
 use kernel_state::{Caller, Parts};
 use kernel_threads::{Message, Wait};
@@ -29,7 +29,7 @@ pub struct Outgoing {
 }
 
 impl Outgoing {
-    pub fn new(length: u32, priority: u8, value: u64) -> Outgoing
+    pub(crate) fn new(length: u32, priority: u8, value: u64) -> Outgoing
         ensures { result ≡ record { length = length; message = record { priority = priority; value = value } } }
     {
         Outgoing {
@@ -84,7 +84,7 @@ fn send_to_queue<K: Sink>(
 
 /// `mq_send`, and with a time `mq_timedsend`. The priority of the message is 0 to 31.
 #[inline(always)]
-pub fn mq_send<K: Sink>(
+pub(crate) fn mq_send<K: Sink>(
     p: &mut Parts,
     by: &Caller<'_>,
     queue: ObjId,

@@ -26,7 +26,7 @@ fn create_dormant<K: Sink>(p: &mut Parts, by: &Caller<'_>, u: Tid, out: &mut Tra
 }
 
 /// `pthread_create`.
-pub(crate) fn make_create<K: Sink>(p: &mut Parts, by: &Caller<'_>, u: Tid, out: &mut Tracer<'_, K>)
+pub(crate) fn create<K: Sink>(p: &mut Parts, by: &Caller<'_>, u: Tid, out: &mut Tracer<'_, K>)
     requires { CanStart p.old by.now.thread u }
     ensures { Does K.text K.faults (creates (flat_bodies p.old.code) (caller by.now) u) p.old p.new out.old out.new }
 {

@@ -20,7 +20,7 @@ use words_numbers::{Prio, Res, Tid};
 use words_script::Policy;
 
 /// `sched_yield`.
-pub(crate) fn make_yield<K: Sink>(p: &mut Parts, by: &Caller<'_>, out: &mut Tracer<'_, K>)
+pub(crate) fn sched_yield<K: Sink>(p: &mut Parts, by: &Caller<'_>, out: &mut Tracer<'_, K>)
     requires known { by.now.thread < length p.old.names }
     requires room { length p.old.direct < 256 }
     ensures { Does K.text K.faults (yields (caller by.now)) p.old p.new out.old out.new }
@@ -30,7 +30,7 @@ pub(crate) fn make_yield<K: Sink>(p: &mut Parts, by: &Caller<'_>, out: &mut Trac
 }
 
 /// `pthread_setschedprio`.
-pub(crate) fn make_setprio<K: Sink>(
+pub(crate) fn setschedprio<K: Sink>(
     p: &mut Parts,
     by: &Caller<'_>,
     u: Tid,
@@ -101,7 +101,7 @@ fn set_policy<K: Sink>(
 }
 
 /// `pthread_setschedparam`.
-pub(crate) fn make_setsched<K: Sink>(
+pub(crate) fn setschedparam<K: Sink>(
     p: &mut Parts,
     by: &Caller<'_>,
     u: Tid,

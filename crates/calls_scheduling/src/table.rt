@@ -10,9 +10,9 @@ ghost use Rattle.kernel_wakes.specs.Calls.{CanCall, objects_in};
 ghost use Rattle.calls_subjects.specs.Subjects.{subject_of};
 ghost use Rattle.calls_subjects.specs.declared.Subject.TheVariants as subject;
 
-use crate::lives::make_create;
-use crate::scheduling::{make_setprio, make_setsched, make_yield};
-use crate::time::{end_of_sleep, sleep_until};
+use crate::lives::create;
+use crate::scheduling::{sched_yield, setschedparam, setschedprio};
+use crate::time::sleep_until;
 use kernel_state::{Caller, Parts};
 use parts_io::Sink;
 use parts_tracer::Tracer;
@@ -28,11 +28,11 @@ pub fn do_scheduling_call<K: Sink>(p: &mut Parts, by: &Caller<'_>, out: &mut Tra
     ensures { Does K.text K.faults (call_effect (flat_bodies p.old.code) (caller by.now) by.now.call.now) p.old p.new out.old out.new }
 {
     match by.call {
-        Call::Yield => make_yield(p, by, out),
-        Call::Create(u) => make_create(p, by, *u, out),
-        Call::Setprio(u, prio) => make_setprio(p, by, *u, *prio, out),
-        Call::Setsched(u, policy) => make_setsched(p, by, *u, policy, out),
-        Call::Nanosleep(n) => sleep_until(p, by, end_of_sleep(p.instant(), *n), out),
+        Call::Yield => sched_yield(p, by, out),
+        Call::Create(u) => create(p, by, *u, out),
+        Call::Setprio(u, prio) => setschedprio(p, by, *u, *prio, out),
+        Call::Setsched(u, policy) => setschedparam(p, by, *u, policy, out),
+        Call::Nanosleep(n) => sleep_until(p, by, p.instant().plus(*n), out),
         Call::ClockNanosleep { at } => sleep_until(p, by, p.moment(by.thread, at), out),
         Call::Gettime => p.returns(by, Res::Zero, p.instant().get(), out),
         Call::RealGettime => p.returns(by, Res::Zero, p.real_time(), out),

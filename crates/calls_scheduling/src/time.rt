@@ -31,14 +31,3 @@ pub(crate) fn sleep_until<K: Sink>(
         p.block_unordered(by, Wait::Time, Some(at));
     }
 }
-
-/// When a sleep of so many ticks ends.
-pub(crate) fn end_of_sleep(now: Tick, n: u64) -> Tick
-    requires { now + n ≤ 2 * 10 ^ 18 }
-    ensures { result ≡ now + n }
-{
-    match now.after(n) {
-        Some(at) => at,
-        None => unreachable!(),
-    }
-}

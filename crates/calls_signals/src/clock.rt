@@ -10,10 +10,7 @@ ghost use Rattle.kernel_state.specs.RealTimes.{sets_clock};
 use kernel_state::{Caller, Parts};
 use parts_io::Sink;
 use parts_tracer::Tracer;
-use words_numbers::Res;
-
-// The greatest reading that the clock is set to.
-const CLOCK_LIMIT: u64 = 1_000_000_000_000_000_000;
+use words_numbers::{GREATEST_NUMBER, Res};
 
 // The clock reads that time now, and the call returns.
 fn set_and_return<K: Sink>(p: &mut Parts, by: &Caller<'_>, reading: u64, out: &mut Tracer<'_, K>)
@@ -28,12 +25,17 @@ fn set_and_return<K: Sink>(p: &mut Parts, by: &Caller<'_>, reading: u64, out: &m
 
 /// `clock_settime` of CLOCK_REALTIME: it reads that time now, and each absolute time on it comes when it is read. EINVAL where the time is
 /// above 10^18.
-pub fn clock_settime<K: Sink>(p: &mut Parts, by: &Caller<'_>, reading: u64, out: &mut Tracer<'_, K>)
+pub(crate) fn clock_settime<K: Sink>(
+    p: &mut Parts,
+    by: &Caller<'_>,
+    reading: u64,
+    out: &mut Tracer<'_, K>,
+)
     requires known { by.now.thread < length p.old.names }
     requires early { p.old.machine.now ≤ 10 ^ 18 }
     ensures { Does K.text K.faults (sets_real_clock (caller by.now) reading) p.old p.new out.old out.new }
 {
-    if reading > CLOCK_LIMIT {
+    if reading > GREATEST_NUMBER {
         p.returns(by, Res::Inval, 0, out);
     } else {
         set_and_return(p, by, reading, out);

@@ -92,7 +92,7 @@ fn send<K: Sink>(p: &mut Parts, by: &Caller<'_>, r: &SignalRecord, out: &mut Tra
 }
 
 /// `kill`.
-pub fn kill<K: Sink>(p: &mut Parts, by: &Caller<'_>, signal: u8, out: &mut Tracer<'_, K>)
+pub(crate) fn kill<K: Sink>(p: &mut Parts, by: &Caller<'_>, signal: u8, out: &mut Tracer<'_, K>)
     requires known { by.now.thread < length p.old.names }
     requires signal { signal < 32 }
     requires can { CanSend p.old }
@@ -115,7 +115,13 @@ fn kill_live<K: Sink>(p: &mut Parts, by: &Caller<'_>, u: Tid, signal: u8, out: &
 }
 
 /// `pthread_kill`.
-pub fn tkill<K: Sink>(p: &mut Parts, by: &Caller<'_>, u: Tid, signal: u8, out: &mut Tracer<'_, K>)
+pub(crate) fn tkill<K: Sink>(
+    p: &mut Parts,
+    by: &Caller<'_>,
+    u: Tid,
+    signal: u8,
+    out: &mut Tracer<'_, K>,
+)
     requires known { by.now.thread < length p.old.names }
     requires thread { u < length p.old.names }
     requires signal { signal < 32 }
@@ -130,7 +136,7 @@ pub fn tkill<K: Sink>(p: &mut Parts, by: &Caller<'_>, u: Tid, signal: u8, out: &
 }
 
 /// `sigqueue`.
-pub fn sigqueue<K: Sink>(
+pub(crate) fn sigqueue<K: Sink>(
     p: &mut Parts,
     by: &Caller<'_>,
     signal: u8,

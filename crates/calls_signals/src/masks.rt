@@ -10,7 +10,12 @@ use parts_tracer::Tracer;
 use words_numbers::{Res, SigSet};
 
 /// The thread blocks the signals of a set.
-pub fn sigmask_set<K: Sink>(p: &mut Parts, by: &Caller<'_>, mask: SigSet, out: &mut Tracer<'_, K>)
+pub(crate) fn sigmask_set<K: Sink>(
+    p: &mut Parts,
+    by: &Caller<'_>,
+    mask: SigSet,
+    out: &mut Tracer<'_, K>,
+)
     requires { by.now.thread < length p.old.names }
     ensures { Does K.text K.faults (sets_mask (caller by.now) (λ (was : ℕ). mask)) p.old p.new out.old out.new }
 {
@@ -19,7 +24,12 @@ pub fn sigmask_set<K: Sink>(p: &mut Parts, by: &Caller<'_>, mask: SigSet, out: &
 }
 
 /// The thread blocks those of a set as well.
-pub fn sigmask_block<K: Sink>(p: &mut Parts, by: &Caller<'_>, more: SigSet, out: &mut Tracer<'_, K>)
+pub(crate) fn sigmask_block<K: Sink>(
+    p: &mut Parts,
+    by: &Caller<'_>,
+    more: SigSet,
+    out: &mut Tracer<'_, K>,
+)
     requires { by.now.thread < length p.old.names }
     ensures { Does K.text K.faults (sets_mask (caller by.now) (with_signals more)) p.old p.new out.old out.new }
 {
@@ -28,7 +38,7 @@ pub fn sigmask_block<K: Sink>(p: &mut Parts, by: &Caller<'_>, more: SigSet, out:
 }
 
 /// The thread no longer blocks those of a set.
-pub fn sigmask_unblock<K: Sink>(
+pub(crate) fn sigmask_unblock<K: Sink>(
     p: &mut Parts,
     by: &Caller<'_>,
     fewer: SigSet,

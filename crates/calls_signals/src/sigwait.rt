@@ -3,7 +3,6 @@ ghost use Rattle.std.specs.Prelude.{◌≡◌, ◌≤◌, ◌<◌, ◌+◌, ◌^
 ghost use Rattle.words_numbers.specs.declared.res.Res.TheVariants as res;
 ghost use Rattle.rules_machine.specs.Clock.{waits_on_real};
 ghost use Rattle.rules_machine.specs.Signals.{delivers, waits_signal, blocks_for_signal, without_record};
-ghost use Rattle.rules_machine.specs.State.{for_signal};
 ghost use Rattle.rules_machine.specs.Turns.{changes_pending, returns, ◌▷◌};
 ghost use Rattle.kernel_state.specs.Does.{Does};
 ghost use Rattle.kernel_state.specs.Caller.{caller};
@@ -16,18 +15,6 @@ use kernel_threads::Wait;
 use parts_io::Sink;
 use parts_tracer::Tracer;
 use words_numbers::{Res, SigSet, Tick};
-
-// When a wait of so many ticks ends.
-fn end_of_wait(now: Tick, n: u64) -> Tick
-    requires now { now ≤ 10 ^ 18 }
-    requires ticks { n ≤ 10 ^ 18 }
-    ensures { result ≡ now + n }
-{
-    match now.after(n) {
-        Some(at) => at,
-        None => unreachable!(),
-    }
-}
 
 // A pending record is accepted.
 fn take<K: Sink>(p: &mut Parts, by: &Caller<'_>, r: &SignalRecord, out: &mut Tracer<'_, K>)
@@ -58,7 +45,7 @@ fn wait_at_most<K: Sink>(
     if n == 0 {
         p.returns(by, Res::Again, 0, out);
     } else {
-        let at = end_of_wait(p.instant(), n);
+        let at = p.instant().plus(n);
         p.block(by, Wait::Signal(awaited), Some(at));
     }
 }
@@ -85,7 +72,7 @@ fn wait_ticks<K: Sink>(
 
 /// A pending record of the set is accepted, whatever its action and the mask.
 #[tactic(auto, using(crate::proofs::Awaited::waits_some, crate::proofs::Awaited::waits_none, crate::proofs::Awaited::told_some, crate::proofs::Awaited::told_none))]
-pub fn sigtimedwait<K: Sink>(
+pub(crate) fn sigtimedwait<K: Sink>(
     p: &mut Parts,
     by: &Caller<'_>,
     awaited: SigSet,

@@ -13,7 +13,7 @@ use parts_tracer::Tracer;
 use words_numbers::{ObjId, Res, Tick};
 
 /// When a timer that is set for so many ticks from now first expires. `None` exactly where that is 0: it is disarmed.
-pub fn expiry_after(now: Tick, n: u64) -> Option<Tick>
+pub(crate) fn expiry_after(now: Tick, n: u64) -> Option<Tick>
     requires now { now ≤ 10 ^ 18 }
     requires ticks { n ≤ 10 ^ 18 }
     ensures { result ≡ first_expiry n (now + n) }
@@ -22,7 +22,7 @@ pub fn expiry_after(now: Tick, n: u64) -> Option<Tick>
 }
 
 /// When a timer that is set for a time of its clock, at most 2·10^18, first expires. `None` exactly where that is 0: it is disarmed.
-pub fn expiry_at(p: &Parts, k: ObjId, at: Tick) -> Option<Tick>
+pub(crate) fn expiry_at(p: &Parts, k: ObjId, at: Tick) -> Option<Tick>
     requires timer { k < length p.now.machine.timers }
     requires early { p.now.machine.now ≤ 10 ^ 18 }
     requires limit { at ≤ 2 * 10 ^ 18 }
@@ -38,7 +38,7 @@ pub fn expiry_at(p: &Parts, k: ObjId, at: Tick) -> Option<Tick>
 
 /// `timer_settime`: the timer is due at that tick, and then again after each interval of so many ticks; with an interval of 0 once. With
 /// `None` it is disarmed. The flag says whether that tick is when CLOCK_REALTIME reads the time that the timer is set to.
-pub fn timer_settime<K: Sink>(
+pub(crate) fn timer_settime<K: Sink>(
     p: &mut Parts,
     by: &Caller<'_>,
     k: ObjId,
@@ -58,7 +58,12 @@ pub fn timer_settime<K: Sink>(
 }
 
 /// `timer_gettime`: the answer is the ticks from now until the timer expires; 0 where it is disarmed, or due by now.
-pub fn timer_gettime<K: Sink>(p: &mut Parts, by: &Caller<'_>, k: ObjId, out: &mut Tracer<'_, K>)
+pub(crate) fn timer_gettime<K: Sink>(
+    p: &mut Parts,
+    by: &Caller<'_>,
+    k: ObjId,
+    out: &mut Tracer<'_, K>,
+)
     requires known { by.now.thread < length p.old.names }
     requires timer { k < length p.old.machine.timers }
     ensures { Does K.text K.faults (reads_timer (caller by.now) k) p.old p.new out.old out.new }
@@ -68,7 +73,12 @@ pub fn timer_gettime<K: Sink>(p: &mut Parts, by: &Caller<'_>, k: ObjId, out: &mu
 }
 
 /// `timer_getoverrun`: the answer is the overrun of the timer's last signal, at most 2,147,483,647.
-pub fn timer_getoverrun<K: Sink>(p: &mut Parts, by: &Caller<'_>, k: ObjId, out: &mut Tracer<'_, K>)
+pub(crate) fn timer_getoverrun<K: Sink>(
+    p: &mut Parts,
+    by: &Caller<'_>,
+    k: ObjId,
+    out: &mut Tracer<'_, K>,
+)
     requires known { by.now.thread < length p.old.names }
     requires timer { k < length p.old.machine.timers }
     ensures { Does K.text K.faults (reads_overrun (caller by.now) k) p.old p.new out.old out.new }

@@ -10,13 +10,13 @@ use words_script::Call;
 
 /// What a call is on. Each has a crate with the effects of its calls, and their table.
 pub enum Subject {
-    /// What runs and when: the processor, the policies of threads, and sleeping.
+    /// What runs and when: the processor, the creation and policies of threads, sleeping, and reading the clocks.
     Scheduling,
     /// The ends of threads, and their cancellation.
     Threads,
     /// Mutexes, conditions and semaphores.
     Sync,
-    /// Signals and the timers that send them.
+    /// Signals, the timers that send them, and setting CLOCK_REALTIME.
     Signals,
     /// Message queues.
     Queues,

@@ -1,5 +1,5 @@
 //! Conditions.
-ghost use Rattle.std.specs.Prelude.{◌≡◌, ◌<◌, ◌^◌, None, Some, IfSome, length, true};
+ghost use Rattle.std.specs.Prelude.{◌≡◌, ◌<◌, ◌^◌, None, Some, length, true};
 ghost use Rattle.words_numbers.specs.declared.res.Res.TheVariants as res;
 ghost use Rattle.rules_machine.specs.declared.thread.CondEnd.TheVariants as cond_end;
 ghost use Rattle.rules_machine.specs.Conditions.{broadcasts, contends, reacquires_or_waits, signals, signals_best, signals_best_times, waits, waits_on_condition};
@@ -109,7 +109,7 @@ fn block_and_release<K: Sink>(
 }
 
 /// `pthread_cond_wait`, and with a time `pthread_cond_timedwait`.
-pub fn cond_wait<K: Sink>(
+pub(crate) fn cond_wait<K: Sink>(
     p: &mut Parts,
     by: &Caller<'_>,
     c: ObjId,
@@ -159,7 +159,12 @@ fn signal_all<K: Sink>(p: &mut Parts, c: ObjId, out: &mut Tracer<'_, K>)
 
 /// `pthread_cond_broadcast`.
 #[tactic(auto, using(crate::proofs::Returned::returned_fits))]
-pub fn cond_broadcast<K: Sink>(p: &mut Parts, by: &Caller<'_>, c: ObjId, out: &mut Tracer<'_, K>)
+pub(crate) fn cond_broadcast<K: Sink>(
+    p: &mut Parts,
+    by: &Caller<'_>,
+    c: ObjId,
+    out: &mut Tracer<'_, K>,
+)
     requires known { by.now.thread < length p.old.names }
     requires can { CanBroadcast p.old }
     ensures { Does K.text K.faults (broadcasts (caller by.now) c) p.old p.new out.old out.new }
@@ -170,7 +175,12 @@ pub fn cond_broadcast<K: Sink>(p: &mut Parts, by: &Caller<'_>, c: ObjId, out: &m
 
 /// `pthread_cond_signal`.
 #[tactic(auto, using(crate::proofs::Returned::returned_fits))]
-pub fn cond_signal<K: Sink>(p: &mut Parts, by: &Caller<'_>, c: ObjId, out: &mut Tracer<'_, K>)
+pub(crate) fn cond_signal<K: Sink>(
+    p: &mut Parts,
+    by: &Caller<'_>,
+    c: ObjId,
+    out: &mut Tracer<'_, K>,
+)
     requires known { by.now.thread < length p.old.names }
     requires can { CanContend p.old }
     ensures { Does K.text K.faults (signals (caller by.now) c) p.old p.new out.old out.new }

@@ -1,5 +1,5 @@
 //! Locking and unlocking.
-ghost use Rattle.std.specs.Prelude.{◌≡◌, ◌<◌, ◌==◌, None, Some, IfSome, false, length, option_map};
+ghost use Rattle.std.specs.Prelude.{◌≡◌, ◌<◌, ◌==◌, None, Some, false, length, option_map};
 ghost use Rattle.words_numbers.specs.declared.res.Res.TheVariants as res;
 ghost use Rattle.rules_machine.specs.Mutexes.{counted_up, counted_down, locks, carries_out_lock, recursion_limit, releases, taken_by, tries_lock, unlocks, waits_for_mutex};
 ghost use Rattle.rules_machine.specs.Threads.{mutex_at};
@@ -75,7 +75,7 @@ fn act<K: Sink>(
 /// `pthread_mutex_lock`, and with a time `pthread_mutex_timedlock`. Mostly the mutex is free, and to take it raises nobody.
 #[inline(always)]
 #[tactic(auto, using(crate::proofs::Acts::awaits_none))]
-pub fn mutex_lock<K: Sink>(
+pub(crate) fn mutex_lock<K: Sink>(
     p: &mut Parts,
     by: &Caller<'_>,
     k: ObjId,
@@ -115,7 +115,12 @@ fn lock_any<K: Sink>(
 
 /// `pthread_mutex_trylock`. It never waits.
 #[tactic(auto, using(crate::proofs::Acts::trylock_can))]
-pub fn mutex_trylock<K: Sink>(p: &mut Parts, by: &Caller<'_>, k: ObjId, out: &mut Tracer<'_, K>)
+pub(crate) fn mutex_trylock<K: Sink>(
+    p: &mut Parts,
+    by: &Caller<'_>,
+    k: ObjId,
+    out: &mut Tracer<'_, K>,
+)
     requires can { CanBlock p.old by.now.thread }
     requires mutex { k < length p.old.machine.mutexes }
     ensures { Does K.text K.faults (tries_lock (caller by.now) k) p.old p.new out.old out.new }
@@ -178,7 +183,12 @@ fn give_up<K: Sink>(p: &mut Parts, by: &Caller<'_>, k: ObjId, out: &mut Tracer<'
 }
 
 /// `pthread_mutex_unlock`.
-pub fn mutex_unlock<K: Sink>(p: &mut Parts, by: &Caller<'_>, k: ObjId, out: &mut Tracer<'_, K>)
+pub(crate) fn mutex_unlock<K: Sink>(
+    p: &mut Parts,
+    by: &Caller<'_>,
+    k: ObjId,
+    out: &mut Tracer<'_, K>,
+)
     requires caller { IsRunning p.old by.now.thread }
     requires mutex { k < length p.old.machine.mutexes }
     requires can { CanWake p.old }

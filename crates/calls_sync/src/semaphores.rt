@@ -33,7 +33,7 @@ fn take<K: Sink>(p: &mut Parts, by: &Caller<'_>, k: ObjId, out: &mut Tracer<'_, 
 }
 
 /// `sem_wait`, and with a time `sem_timedwait`.
-pub fn sem_wait<K: Sink>(
+pub(crate) fn sem_wait<K: Sink>(
     p: &mut Parts,
     by: &Caller<'_>,
     k: ObjId,
@@ -53,7 +53,12 @@ pub fn sem_wait<K: Sink>(
 }
 
 /// `sem_trywait`.
-pub fn sem_trywait<K: Sink>(p: &mut Parts, by: &Caller<'_>, k: ObjId, out: &mut Tracer<'_, K>)
+pub(crate) fn sem_trywait<K: Sink>(
+    p: &mut Parts,
+    by: &Caller<'_>,
+    k: ObjId,
+    out: &mut Tracer<'_, K>,
+)
     requires known { by.now.thread < length p.old.names }
     requires semaphore { k < length p.old.machine.semaphores }
     ensures { Does K.text K.faults (tries_semaphore (caller by.now) k) p.old p.new out.old out.new }
@@ -66,7 +71,12 @@ pub fn sem_trywait<K: Sink>(p: &mut Parts, by: &Caller<'_>, k: ObjId, out: &mut 
 }
 
 /// `sem_getvalue`.
-pub fn sem_getvalue<K: Sink>(p: &mut Parts, by: &Caller<'_>, k: ObjId, out: &mut Tracer<'_, K>)
+pub(crate) fn sem_getvalue<K: Sink>(
+    p: &mut Parts,
+    by: &Caller<'_>,
+    k: ObjId,
+    out: &mut Tracer<'_, K>,
+)
     requires known { by.now.thread < length p.old.names }
     requires semaphore { k < length p.old.machine.semaphores }
     ensures { Does K.text K.faults (reads_semaphore (caller by.now) k) p.old p.new out.old out.new }
@@ -99,7 +109,7 @@ fn return_and_wake<K: Sink>(p: &mut Parts, by: &Caller<'_>, w: Tid, out: &mut Tr
 }
 
 /// `sem_post`.
-pub fn sem_post<K: Sink>(p: &mut Parts, by: &Caller<'_>, k: ObjId, out: &mut Tracer<'_, K>)
+pub(crate) fn sem_post<K: Sink>(p: &mut Parts, by: &Caller<'_>, k: ObjId, out: &mut Tracer<'_, K>)
     requires known { by.now.thread < length p.old.names }
     requires semaphore { k < length p.old.machine.semaphores }
     requires can { CanWake p.old }

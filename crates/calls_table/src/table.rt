@@ -1,14 +1,12 @@
 //! Calls that are made: each has its effect, by what it is on, or a request to end acts in its place.
-ghost use Rattle.std.specs.Prelude.{◌≡◌, length};
-ghost use Rattle.rules_machine.specs.Threads.{thread_at};
+ghost use Rattle.std.specs.Prelude.{◌≡◌};
 ghost use Rattle.rules_machine.specs.Calls.{makes_call};
 ghost use Rattle.rules_flat_code.specs.FlatBodies.{flat_bodies};
-ghost use Rattle.rules_flat_code.specs.Runnable.{CallIsRunnable};
 ghost use Rattle.kernel_state.specs.Does.{Does};
 ghost use Rattle.calls_subjects.specs.Subjects.{subject_of};
 ghost use Rattle.calls_subjects.specs.declared.Subject.TheVariants as subject;
 ghost use Rattle.kernel_state.specs.Kernel.{by};
-ghost use Rattle.kernel_wakes.specs.Calls.{CanCall, HasRoomFor, objects_in};
+ghost use Rattle.kernel_wakes.specs.Calls.{CanMakeCall};
 
 use calls_queues::do_queue_call;
 use calls_scheduling::do_scheduling_call;
@@ -31,9 +29,7 @@ pub fn make_scheduling_call<K: Sink>(
     call: &Call,
     out: &mut Tracer<'_, K>,
 )
-    requires caller { CanCall p.old thread }
-    requires runnable { CallIsRunnable (objects_in p.old) call.now }
-    requires guards { HasRoomFor (length p.old.code.cleanups) (thread_at p.old.machine thread) call.now }
+    requires caller { CanMakeCall p.old thread call.now }
     requires subject { subject_of call.now ≡ subject.Scheduling }
     ensures { Does K.text K.faults (makes_call (flat_bodies p.old.code) (by thread call.now)) p.old p.new out.old out.new }
 {
@@ -48,9 +44,7 @@ pub fn make_scheduling_call<K: Sink>(
 /// The thread makes a call on the ends of threads, and their cancellation, or a request acts in its place.
 #[inline(always)]
 pub fn make_thread_call<K: Sink>(p: &mut Parts, thread: Tid, call: &Call, out: &mut Tracer<'_, K>)
-    requires caller { CanCall p.old thread }
-    requires runnable { CallIsRunnable (objects_in p.old) call.now }
-    requires guards { HasRoomFor (length p.old.code.cleanups) (thread_at p.old.machine thread) call.now }
+    requires caller { CanMakeCall p.old thread call.now }
     requires subject { subject_of call.now ≡ subject.Threads }
     ensures { Does K.text K.faults (makes_call (flat_bodies p.old.code) (by thread call.now)) p.old p.new out.old out.new }
 {
@@ -65,9 +59,7 @@ pub fn make_thread_call<K: Sink>(p: &mut Parts, thread: Tid, call: &Call, out: &
 /// The thread makes a call on a mutex, a condition or a semaphore, or a request acts in its place.
 #[inline(always)]
 pub fn make_sync_call<K: Sink>(p: &mut Parts, thread: Tid, call: &Call, out: &mut Tracer<'_, K>)
-    requires caller { CanCall p.old thread }
-    requires runnable { CallIsRunnable (objects_in p.old) call.now }
-    requires guards { HasRoomFor (length p.old.code.cleanups) (thread_at p.old.machine thread) call.now }
+    requires caller { CanMakeCall p.old thread call.now }
     requires subject { subject_of call.now ≡ subject.Sync }
     ensures { Does K.text K.faults (makes_call (flat_bodies p.old.code) (by thread call.now)) p.old p.new out.old out.new }
 {
@@ -82,9 +74,7 @@ pub fn make_sync_call<K: Sink>(p: &mut Parts, thread: Tid, call: &Call, out: &mu
 /// The thread makes a call on signals, or on a timer that sends one, or a request acts in its place.
 #[inline(always)]
 pub fn make_signal_call<K: Sink>(p: &mut Parts, thread: Tid, call: &Call, out: &mut Tracer<'_, K>)
-    requires caller { CanCall p.old thread }
-    requires runnable { CallIsRunnable (objects_in p.old) call.now }
-    requires guards { HasRoomFor (length p.old.code.cleanups) (thread_at p.old.machine thread) call.now }
+    requires caller { CanMakeCall p.old thread call.now }
     requires subject { subject_of call.now ≡ subject.Signals }
     ensures { Does K.text K.faults (makes_call (flat_bodies p.old.code) (by thread call.now)) p.old p.new out.old out.new }
 {
@@ -99,9 +89,7 @@ pub fn make_signal_call<K: Sink>(p: &mut Parts, thread: Tid, call: &Call, out: &
 /// The thread makes a call on a message queue, or a request acts in its place.
 #[inline(always)]
 pub fn make_queue_call<K: Sink>(p: &mut Parts, thread: Tid, call: &Call, out: &mut Tracer<'_, K>)
-    requires caller { CanCall p.old thread }
-    requires runnable { CallIsRunnable (objects_in p.old) call.now }
-    requires guards { HasRoomFor (length p.old.code.cleanups) (thread_at p.old.machine thread) call.now }
+    requires caller { CanMakeCall p.old thread call.now }
     requires subject { subject_of call.now ≡ subject.Queues }
     ensures { Does K.text K.faults (makes_call (flat_bodies p.old.code) (by thread call.now)) p.old p.new out.old out.new }
 {
@@ -116,9 +104,7 @@ pub fn make_queue_call<K: Sink>(p: &mut Parts, thread: Tid, call: &Call, out: &m
 /// The thread makes the call, or a request acts in its place.
 #[inline(always)]
 pub fn make_call<K: Sink>(p: &mut Parts, thread: Tid, call: &Call, out: &mut Tracer<'_, K>)
-    requires caller { CanCall p.old thread }
-    requires runnable { CallIsRunnable (objects_in p.old) call.now }
-    requires guards { HasRoomFor (length p.old.code.cleanups) (thread_at p.old.machine thread) call.now }
+    requires { CanMakeCall p.old thread call.now }
     ensures { Does K.text K.faults (makes_call (flat_bodies p.old.code) (by thread call.now)) p.old p.new out.old out.new }
 {
     match subject_of(call) {

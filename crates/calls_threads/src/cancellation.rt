@@ -1,5 +1,5 @@
 //! Cancellation: requests to end, and where they act.
-ghost use Rattle.std.specs.Prelude.{◌≡◌, ◌<◌, ◌&&◌, Bool, length};
+ghost use Rattle.std.specs.Prelude.{◌≡◌, ◌<◌, ◌&&◌, length};
 ghost use Rattle.words_numbers.specs.declared.res.Res.TheVariants as res;
 ghost use Rattle.rules_machine.specs.Cancellation.{acts_if_blocked, cancels, is_cancellation_point, leaves, leaves_wait, request_acts, requested, sets_cancelability};
 ghost use Rattle.rules_machine.specs.Lives.{with_joiner};
@@ -34,7 +34,12 @@ pub fn acts_in_place(p: &Parts, by: &Caller<'_>) -> bool
 }
 
 /// `pthread_setcancelstate`.
-pub fn set_cancelability<K: Sink>(p: &mut Parts, by: &Caller<'_>, on: bool, out: &mut Tracer<'_, K>)
+pub(crate) fn set_cancelability<K: Sink>(
+    p: &mut Parts,
+    by: &Caller<'_>,
+    on: bool,
+    out: &mut Tracer<'_, K>,
+)
     requires known { by.now.thread < length p.old.names }
     ensures { Does K.text K.faults (sets_cancelability (caller by.now) on) p.old p.new out.old out.new }
 {
@@ -120,7 +125,7 @@ fn cancel_live<K: Sink>(p: &mut Parts, by: &Caller<'_>, u: Tid, out: &mut Tracer
 }
 
 /// `pthread_cancel`.
-pub fn cancel<K: Sink>(p: &mut Parts, by: &Caller<'_>, u: Tid, out: &mut Tracer<'_, K>)
+pub(crate) fn cancel<K: Sink>(p: &mut Parts, by: &Caller<'_>, u: Tid, out: &mut Tracer<'_, K>)
     requires known { by.now.thread < length p.old.names }
     requires thread { u < length p.old.names }
     requires can { CanCancel p.old }

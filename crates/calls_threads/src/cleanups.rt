@@ -15,12 +15,17 @@ use parts_tracer::Tracer;
 use words_numbers::{ObjId, Res, Tid};
 
 /// `pthread_cleanup_push`.
-pub fn push_cleanup<K: Sink>(p: &mut Parts, by: &Caller<'_>, u: ObjId, out: &mut Tracer<'_, K>)
+pub(crate) fn push_cleanup<K: Sink>(
+    p: &mut Parts,
+    by: &Caller<'_>,
+    u: ObjId,
+    out: &mut Tracer<'_, K>,
+)
     requires known { by.now.thread < length p.old.names }
     requires room { length (thread_at p.old.machine by.now.thread).cleanups < 8 }
     ensures { Does K.text K.faults (pushes_cleanup (caller by.now) u) p.old p.new out.old out.new }
 {
-    p.put_cleanup(by.thread, u);
+    p.push_cleanup(by.thread, u);
     p.returns(by, Res::Zero, 0, out);
 }
 
@@ -43,7 +48,12 @@ fn run_last(p: &mut Parts, t: Tid, last: Option<ObjId>, runs: bool)
 
 /// `pthread_cleanup_pop`.
 #[tactic(auto, using(crate::proofs::Popped::first_known, crate::proofs::Popped::frames_kept))]
-pub fn pop_cleanup<K: Sink>(p: &mut Parts, by: &Caller<'_>, runs: bool, out: &mut Tracer<'_, K>)
+pub(crate) fn pop_cleanup<K: Sink>(
+    p: &mut Parts,
+    by: &Caller<'_>,
+    runs: bool,
+    out: &mut Tracer<'_, K>,
+)
     requires known { by.now.thread < length p.old.names }
     requires handlers { AreHandlers (length p.old.code.cleanups) (thread_at p.old.machine by.now.thread).cleanups }
     requires room { length (thread_at p.old.machine by.now.thread).frames ≤ 2 }

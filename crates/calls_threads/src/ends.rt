@@ -88,7 +88,7 @@ pub fn finish<K: Sink>(p: &mut Parts, t: Tid, out: &mut Tracer<'_, K>)
 }
 
 /// `pthread_exit`: the thread is ending, and its cleanup handlers come first.
-pub fn exit(p: &mut Parts, by: &Caller<'_>, value: u64)
+pub(crate) fn exit(p: &mut Parts, by: &Caller<'_>, value: u64)
     requires { by.now.thread < length p.old.names }
     ensures { p.new ≡ after (exits (caller by.now) value) p.old }
 {

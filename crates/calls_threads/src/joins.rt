@@ -50,7 +50,7 @@ fn take_value<K: Sink>(p: &mut Parts, by: &Caller<'_>, u: Tid, out: &mut Tracer<
 }
 
 /// `pthread_join`.
-pub fn join<K: Sink>(p: &mut Parts, by: &Caller<'_>, u: Tid, out: &mut Tracer<'_, K>)
+pub(crate) fn join<K: Sink>(p: &mut Parts, by: &Caller<'_>, u: Tid, out: &mut Tracer<'_, K>)
     requires caller { IsRunning p.old by.now.thread }
     requires thread { u < length p.old.names }
     ensures { Does K.text K.faults (joins (caller by.now) u) p.old p.new out.old out.new }

@@ -4,10 +4,10 @@
 //! Proved: `prepare` is what the machine does before a tick, with the lines told; `report` prints the closing lines.
 #![tactic(auto)]
 
-mod closing;
+mod closing_lines;
 mod dispatch;
 mod runs;
 
-pub use closing::report;
+pub use closing_lines::report;
 pub use dispatch::prepare;
 pub use runs::has_run;

@@ -13,7 +13,7 @@ use Rattle.rules_machine.proofs.Joined.{ticks_add}
 use Rattle.rules_flat_code.specs.FlatBodies.{code_of, flat_bodies}
 use Rattle.rules_leaps.specs.Leap.{IsLeap}
 use Rattle.rules_leaps.specs.Quiet.{IsQuiet}
-use Rattle.rules_facts.specs.Detail.{changed, changed_at, machine_before, timed_line}
+use Rattle.rules_facts.specs.Detail.{changed, facts_changed_at, machine_before, timed_line}
 use Rattle.rules_facts.specs.Fact.{Fact}
 use Rattle.rules_facts.specs.Facts.{facts}
 use Rattle.rules_facts.specs.Shown.{shown_machine}
@@ -35,12 +35,12 @@ pub one_stays : (script : Script) (n : ℕ) → StayFor script n 1
 one_stays script n i lt = (let same : n + i ≡ n = omega (arith, lt) in ap (λ (k : ℕ). facts script (shown_machine script k)) same)
 
 module _ (script : Script) (n j : ℕ) (stay : StayFor script n j) where
-  none_at : (i : ℕ) → 1 ≤ i → i < j → changed_at script (n + i) ≡ []
+  none_at : (i : ℕ) → 1 ≤ i → i < j → facts_changed_at script (n + i) ≡ []
   none_at zero low high = absurd (omega arith)
   none_at (suc i) low high =
       let next : n + suc i ≡ suc (n + i) = omega arith in
       let back : suc (n + i) ≡ n + suc i = omega arith in
-      ap (changed_at script) next
+      ap (facts_changed_at script) next
       ∙ ap (λ (fs : List Fact). changed script.decls (facts script (shown_machine script (n + i))) fs)
       (ap (λ (k : ℕ). facts script (shown_machine script k)) back ∙ stay (suc i) high ∙ sym (stay i (omega arith)))
       ∙ none_changed script.decls (facts script (shown_machine script (n + i)))

@@ -1,6 +1,5 @@
 -- What a thread asks for as it completes a unit.
 use Rattle.std.specs.Prelude.{◌≡◌, ◌<◌, ◌^◌, ℕ, length, true}
-use Rattle.words_script.specs.declared.call.Call.{Call}
 use Rattle.rules_bodies.specs.declared.cursor.Cursor.{Cursor}
 use Rattle.rules_bodies.specs.declared.unit.Unit as unit_type
 use Rattle.rules_bodies.specs.declared.unit.Unit.TheVariants as unit
@@ -14,13 +13,7 @@ use Rattle.kernel_state.specs.Kernel.{Kernel}
 use Rattle.kernel_state.specs.Pending.{PendingFits, SignalsFit}
 use Rattle.kernel_wakes.specs.Waits.{WaitsFit}
 use Rattle.kernel_wakes.specs.Joins.{JoinsFit}
-use Rattle.rules_flat_code.specs.Runnable.{CallIsRunnable}
-use Rattle.kernel_wakes.specs.Calls.{HasRoomFor}
-
--- a call names what there is, and there is room for what it pushes or pops
-pub record CanMake (o : Objects) (th : Thread Cursor) (c : Call) : Type 0 where
-  pub runnable : CallIsRunnable o c
-  pub room : HasRoomFor o.cleanups th c
+use Rattle.kernel_wakes.specs.Calls.{CanMake}
 
 -- A thread can complete a unit.
 abbrev pub CanComplete : Objects → Thread Cursor → unit_type.Unit → Type 0

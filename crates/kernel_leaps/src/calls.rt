@@ -3,10 +3,8 @@ ghost use Rattle.script_code.specs.Fetched.{call_of};
 ghost use Rattle.script_code.specs.ShortCall.{call_of_short};
 ghost use Rattle.words_script.specs.declared.call.Call.TheVariants as call;
 ghost use Rattle.rules_machine.specs.Calls.{makes_call};
-ghost use Rattle.rules_machine.specs.Threads.{thread_at};
 ghost use Rattle.rules_flat_code.specs.FlatBodies.{flat_bodies};
-ghost use Rattle.kernel_wakes.specs.Calls.{CanCall, objects_in};
-ghost use Rattle.kernel_leaps.specs.Completes.{CanMake};
+ghost use Rattle.kernel_wakes.specs.Calls.{CanMakeCall};
 ghost use Rattle.kernel_state.specs.Kernel.{by};
 ghost use Rattle.kernel_state.specs.Does.{Does};
 
@@ -25,8 +23,7 @@ use words_script::{Call, Operand};
 /// its own, and is not copied; any other is copied once, as it is.
 #[inline(never)]
 pub(crate) fn make_any<K: Sink>(p: &mut Parts, t: Tid, place: CallPlace, out: &mut Tracer<'_, K>)
-    requires caller { CanCall p.old t }
-    requires can { CanMake (objects_in p.old) (thread_at p.old.machine t) (call_of p.old.code place) }
+    requires { CanMakeCall p.old t (call_of p.old.code place) }
     ensures { Does K.text K.faults (makes_call (flat_bodies p.old.code) (by t (call_of p.old.code place))) p.old p.new out.old out.new }
 {
     let Some(kept) = p.call_in_table(&place) else {
@@ -54,8 +51,7 @@ pub(crate) fn make_any<K: Sink>(p: &mut Parts, t: Tid, place: CallPlace, out: &m
 // The same, wherever it is kept.
 #[inline(never)]
 fn make_any_in_full<K: Sink>(p: &mut Parts, t: Tid, place: CallPlace, out: &mut Tracer<'_, K>)
-    requires caller { CanCall p.old t }
-    requires can { CanMake (objects_in p.old) (thread_at p.old.machine t) (call_of p.old.code place) }
+    requires { CanMakeCall p.old t (call_of p.old.code place) }
     ensures { Does K.text K.faults (makes_call (flat_bodies p.old.code) (by t (call_of p.old.code place))) p.old p.new out.old out.new }
 {
     let call = p.call(&place);
@@ -65,23 +61,21 @@ fn make_any_in_full<K: Sink>(p: &mut Parts, t: Tid, place: CallPlace, out: &mut 
 // A call that was copied.
 #[inline(never)]
 fn make_kept<K: Sink>(p: &mut Parts, t: Tid, call: &Call, out: &mut Tracer<'_, K>)
-    requires caller { CanCall p.old t }
-    requires can { CanMake (objects_in p.old) (thread_at p.old.machine t) call.now }
+    requires { CanMakeCall p.old t call.now }
     ensures { Does K.text K.faults (makes_call (flat_bodies p.old.code) (by t call.now)) p.old p.new out.old out.new }
 {
     make_call(p, t, call, out);
 }
 
-/// A short call. For `WAY` see `leap_thread`.
+/// A short call. For `COMMAND` see `leap_thread`.
 #[inline(always)]
-pub(crate) fn make_short<K: Sink, const WAY: usize>(
+pub(crate) fn make_short<K: Sink, const COMMAND: usize>(
     p: &mut Parts,
     t: Tid,
     short: ShortCall,
     out: &mut Tracer<'_, K>,
 )
-    requires caller { CanCall p.old t }
-    requires can { CanMake (objects_in p.old) (thread_at p.old.machine t) (call_of_short short) }
+    requires { CanMakeCall p.old t (call_of_short short) }
     ensures { Does K.text K.faults (makes_call (flat_bodies p.old.code) (by t (call_of_short short))) p.old p.new out.old out.new }
 {
     match short {
@@ -96,8 +90,7 @@ pub(crate) fn make_short<K: Sink, const WAY: usize>(
 // `pthread_mutex_lock`.
 #[inline(never)]
 fn make_lock<K: Sink>(p: &mut Parts, t: Tid, k: ObjId, out: &mut Tracer<'_, K>)
-    requires caller { CanCall p.old t }
-    requires can { CanMake (objects_in p.old) (thread_at p.old.machine t) (call.Lock k) }
+    requires { CanMakeCall p.old t (call.Lock k) }
     ensures { Does K.text K.faults (makes_call (flat_bodies p.old.code) (by t (call.Lock k))) p.old p.new out.old out.new }
 {
     make_sync_call(p, t, &Call::Lock(k), out);
@@ -106,8 +99,7 @@ fn make_lock<K: Sink>(p: &mut Parts, t: Tid, k: ObjId, out: &mut Tracer<'_, K>)
 // `nanosleep`.
 #[inline(never)]
 fn make_sleep<K: Sink>(p: &mut Parts, t: Tid, n: u64, out: &mut Tracer<'_, K>)
-    requires caller { CanCall p.old t }
-    requires can { CanMake (objects_in p.old) (thread_at p.old.machine t) (call.Nanosleep n) }
+    requires { CanMakeCall p.old t (call.Nanosleep n) }
     ensures { Does K.text K.faults (makes_call (flat_bodies p.old.code) (by t (call.Nanosleep n))) p.old p.new out.old out.new }
 {
     make_scheduling_call(p, t, &Call::Nanosleep(n), out);
@@ -116,8 +108,7 @@ fn make_sleep<K: Sink>(p: &mut Parts, t: Tid, n: u64, out: &mut Tracer<'_, K>)
 // `pthread_create`.
 #[inline(never)]
 fn make_create<K: Sink>(p: &mut Parts, t: Tid, u: Tid, out: &mut Tracer<'_, K>)
-    requires caller { CanCall p.old t }
-    requires can { CanMake (objects_in p.old) (thread_at p.old.machine t) (call.Create u) }
+    requires { CanMakeCall p.old t (call.Create u) }
     ensures { Does K.text K.faults (makes_call (flat_bodies p.old.code) (by t (call.Create u))) p.old p.new out.old out.new }
 {
     make_scheduling_call(p, t, &Call::Create(u), out);
@@ -126,8 +117,7 @@ fn make_create<K: Sink>(p: &mut Parts, t: Tid, u: Tid, out: &mut Tracer<'_, K>)
 // `pthread_join`.
 #[inline(never)]
 fn make_join<K: Sink>(p: &mut Parts, t: Tid, u: Tid, out: &mut Tracer<'_, K>)
-    requires caller { CanCall p.old t }
-    requires can { CanMake (objects_in p.old) (thread_at p.old.machine t) (call.Join u) }
+    requires { CanMakeCall p.old t (call.Join u) }
     ensures { Does K.text K.faults (makes_call (flat_bodies p.old.code) (by t (call.Join u))) p.old p.new out.old out.new }
 {
     make_thread_call(p, t, &Call::Join(u), out);
@@ -136,8 +126,7 @@ fn make_join<K: Sink>(p: &mut Parts, t: Tid, u: Tid, out: &mut Tracer<'_, K>)
 // `pthread_cancel`.
 #[inline(never)]
 fn make_cancel<K: Sink>(p: &mut Parts, t: Tid, u: Tid, out: &mut Tracer<'_, K>)
-    requires caller { CanCall p.old t }
-    requires can { CanMake (objects_in p.old) (thread_at p.old.machine t) (call.Cancel u) }
+    requires { CanMakeCall p.old t (call.Cancel u) }
     ensures { Does K.text K.faults (makes_call (flat_bodies p.old.code) (by t (call.Cancel u))) p.old p.new out.old out.new }
 {
     make_thread_call(p, t, &Call::Cancel(u), out);
@@ -146,8 +135,7 @@ fn make_cancel<K: Sink>(p: &mut Parts, t: Tid, u: Tid, out: &mut Tracer<'_, K>)
 // `pthread_setschedprio`.
 #[inline(never)]
 fn make_setprio<K: Sink>(p: &mut Parts, t: Tid, u: Tid, prio: Prio, out: &mut Tracer<'_, K>)
-    requires caller { CanCall p.old t }
-    requires can { CanMake (objects_in p.old) (thread_at p.old.machine t) (call.Setprio u prio) }
+    requires { CanMakeCall p.old t (call.Setprio u prio) }
     ensures { Does K.text K.faults (makes_call (flat_bodies p.old.code) (by t (call.Setprio u prio))) p.old p.new out.old out.new }
 {
     make_scheduling_call(p, t, &Call::Setprio(u, prio), out);
@@ -156,8 +144,7 @@ fn make_setprio<K: Sink>(p: &mut Parts, t: Tid, u: Tid, prio: Prio, out: &mut Tr
 // `kill`.
 #[inline(never)]
 fn make_kill<K: Sink>(p: &mut Parts, t: Tid, signal: u8, out: &mut Tracer<'_, K>)
-    requires caller { CanCall p.old t }
-    requires can { CanMake (objects_in p.old) (thread_at p.old.machine t) (call.Kill signal) }
+    requires { CanMakeCall p.old t (call.Kill signal) }
     ensures { Does K.text K.faults (makes_call (flat_bodies p.old.code) (by t (call.Kill signal))) p.old p.new out.old out.new }
 {
     make_signal_call(p, t, &Call::Kill(signal), out);
@@ -166,8 +153,7 @@ fn make_kill<K: Sink>(p: &mut Parts, t: Tid, signal: u8, out: &mut Tracer<'_, K>
 // `sem_wait`.
 #[inline(never)]
 fn make_sem_wait<K: Sink>(p: &mut Parts, t: Tid, k: ObjId, out: &mut Tracer<'_, K>)
-    requires caller { CanCall p.old t }
-    requires can { CanMake (objects_in p.old) (thread_at p.old.machine t) (call.SemWait k) }
+    requires { CanMakeCall p.old t (call.SemWait k) }
     ensures { Does K.text K.faults (makes_call (flat_bodies p.old.code) (by t (call.SemWait k))) p.old p.new out.old out.new }
 {
     make_sync_call(p, t, &Call::SemWait(k), out);
@@ -176,8 +162,7 @@ fn make_sem_wait<K: Sink>(p: &mut Parts, t: Tid, k: ObjId, out: &mut Tracer<'_, 
 // `pthread_cond_wait`.
 #[inline(never)]
 fn make_wait<K: Sink>(p: &mut Parts, t: Tid, c: ObjId, k: ObjId, out: &mut Tracer<'_, K>)
-    requires caller { CanCall p.old t }
-    requires can { CanMake (objects_in p.old) (thread_at p.old.machine t) (call.Wait c k) }
+    requires { CanMakeCall p.old t (call.Wait c k) }
     ensures { Does K.text K.faults (makes_call (flat_bodies p.old.code) (by t (call.Wait c k))) p.old p.new out.old out.new }
 {
     make_sync_call(p, t, &Call::Wait(c, k), out);
@@ -186,8 +171,7 @@ fn make_wait<K: Sink>(p: &mut Parts, t: Tid, c: ObjId, k: ObjId, out: &mut Trace
 // `pthread_cond_signal`.
 #[inline(never)]
 fn make_signal<K: Sink>(p: &mut Parts, t: Tid, c: ObjId, out: &mut Tracer<'_, K>)
-    requires caller { CanCall p.old t }
-    requires can { CanMake (objects_in p.old) (thread_at p.old.machine t) (call.Signal c) }
+    requires { CanMakeCall p.old t (call.Signal c) }
     ensures { Does K.text K.faults (makes_call (flat_bodies p.old.code) (by t (call.Signal c))) p.old p.new out.old out.new }
 {
     make_sync_call(p, t, &Call::Signal(c), out);
@@ -196,8 +180,7 @@ fn make_signal<K: Sink>(p: &mut Parts, t: Tid, c: ObjId, out: &mut Tracer<'_, K>
 // `sigwaitinfo`.
 #[inline(never)]
 fn make_sigwaitinfo<K: Sink>(p: &mut Parts, t: Tid, set: SigSet, out: &mut Tracer<'_, K>)
-    requires caller { CanCall p.old t }
-    requires can { CanMake (objects_in p.old) (thread_at p.old.machine t) (call.Sigwaitinfo set) }
+    requires { CanMakeCall p.old t (call.Sigwaitinfo set) }
     ensures { Does K.text K.faults (makes_call (flat_bodies p.old.code) (by t (call.Sigwaitinfo set))) p.old p.new out.old out.new }
 {
     make_signal_call(p, t, &Call::Sigwaitinfo(set), out);
@@ -214,8 +197,7 @@ fn make_send<K: Sink>(
     v: Operand,
     out: &mut Tracer<'_, K>,
 )
-    requires caller { CanCall p.old t }
-    requires can { CanMake (objects_in p.old) (thread_at p.old.machine t) (call.MqSend q len prio v) }
+    requires { CanMakeCall p.old t (call.MqSend q len prio v) }
     ensures { Does K.text K.faults (makes_call (flat_bodies p.old.code) (by t (call.MqSend q len prio v))) p.old p.new out.old out.new }
 {
     make_queue_call(p, t, &Call::MqSend(q, len, prio, v), out);
@@ -224,8 +206,7 @@ fn make_send<K: Sink>(
 // `mq_receive`.
 #[inline(never)]
 fn make_receive<K: Sink>(p: &mut Parts, t: Tid, q: ObjId, out: &mut Tracer<'_, K>)
-    requires caller { CanCall p.old t }
-    requires can { CanMake (objects_in p.old) (thread_at p.old.machine t) (call.MqReceive q) }
+    requires { CanMakeCall p.old t (call.MqReceive q) }
     ensures { Does K.text K.faults (makes_call (flat_bodies p.old.code) (by t (call.MqReceive q))) p.old p.new out.old out.new }
 {
     make_queue_call(p, t, &Call::MqReceive(q), out);

@@ -80,9 +80,9 @@ fn only_took_time(p: &Parts, ran: &Ran, saves: bool) -> bool
 
 /// Ticks of a thread, to the nearest due tick at most: the units that it passes, and a leap, each of them one step.
 ///
-/// Nothing asks for `WAY`, 0 for `run` and 1 for `detail`: by it each command has a function of its own, which is inlined there.
+/// Nothing asks for `COMMAND`, 0 for `run` and 1 for `detail`: by it each command has a function of its own, which is inlined there.
 #[inline(always)]
-pub(crate) fn leap_thread<K: Sink, L: Ledger, const WAY: usize>(
+pub(crate) fn leap_thread<K: Sink, L: Ledger, const COMMAND: usize>(
     p: &mut Parts,
     t: Tid,
     near: u64,
@@ -104,7 +104,7 @@ pub(crate) fn leap_thread<K: Sink, L: Ledger, const WAY: usize>(
     let saves = uses_up_nothing(p, t, ran.was_high);
     let is_quiet = ended_quietly(&ran, saves);
     let is_still = only_took_time(p, &ran, saves);
-    complete_at_end::<K, WAY>(p, t, &ran, out);
+    complete_at_end::<K, COMMAND>(p, t, &ran, out);
     settle(p);
     end_tick(p, ran.was_high, t, out);
     sweep(p, out);

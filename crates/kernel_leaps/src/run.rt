@@ -7,7 +7,6 @@ ghost use Rattle.rules_flat_code.specs.FlatBodies.{flat_bodies};
 ghost use Rattle.rules_leaps.specs.Leap.{in_leaps};
 ghost use Rattle.kernel_wakes.specs.Calls.{objects_in};
 ghost use Rattle.kernel_leaps.specs.Fits.{StaysFit};
-ghost use Rattle.kernel_state.specs.Kernel.{Kernel};
 ghost use Rattle.kernel_settling.specs.Stood.{StoodRight};
 
 use crate::leaps::leaps;

@@ -1,9 +1,7 @@
 //! The rule of the tick's end.
 ghost use Rattle.std.specs.Prelude.{◌≡◌, ◌≤◌, ◌<◌, [], false, length};
-ghost use Rattle.rules_machine.specs.Servers.{plans};
-ghost use Rattle.rules_machine.specs.Threads.{can_run, thread_at};
+ghost use Rattle.rules_machine.specs.Threads.{thread_at};
 ghost use Rattle.rules_machine.specs.Ticks.{consumed_in, ends_tick, exhausting, nothing, slicing, tick_end, tick_ends};
-ghost use Rattle.kernel_threads.specs.Ends.{end_of};
 ghost use Rattle.kernel_state.specs.Kernel.{after};
 ghost use Rattle.kernel_state.specs.Does.{Does};
 ghost use Rattle.kernel_settling.specs.Stood.{StoodRight};

@@ -47,7 +47,7 @@ pub(crate) fn run_thread<L: Ledger>(p: &mut Parts, t: Tid, near: u64, steps: &mu
 
 // What a unit does once it is complete. A short call is told by the unit itself, so that nothing is looked up.
 #[inline(always)]
-fn complete<K: Sink, const WAY: usize>(
+fn complete<K: Sink, const COMMAND: usize>(
     p: &mut Parts,
     t: Tid,
     unit: &Fetched,
@@ -63,14 +63,14 @@ fn complete<K: Sink, const WAY: usize>(
             let CallPlace { body, op } = *place;
             make_any(p, t, CallPlace { body, op }, out)
         }
-        Fetched::Short(short) => make_short::<K, WAY>(p, t, *short, out),
+        Fetched::Short(short) => make_short::<K, COMMAND>(p, t, *short, out),
         Fetched::Finish => finish(p, t, out),
     }
 }
 
 /// The effect of the unit, where no tick of it is left.
 #[inline(always)]
-pub(crate) fn complete_at_end<K: Sink, const WAY: usize>(
+pub(crate) fn complete_at_end<K: Sink, const COMMAND: usize>(
     p: &mut Parts,
     t: Tid,
     ran: &Ran,
@@ -82,6 +82,6 @@ pub(crate) fn complete_at_end<K: Sink, const WAY: usize>(
     ensures { Does K.text K.faults (completes (flat_bodies p.old.code) t (unit_of p.old.code ran.now.unit)) p.old p.new out.old out.new }
 {
     if ran.is_complete {
-        complete::<K, WAY>(p, t, &ran.unit, out);
+        complete::<K, COMMAND>(p, t, &ran.unit, out);
     }
 }

@@ -1,5 +1,5 @@
 //! The line of a fact that changes.
-ghost use Rattle.std.specs.Prelude.{◌≡◌, ◌∷◌, ◌++◌, decimal, length};
+ghost use Rattle.std.specs.Prelude.{◌≡◌, ◌∷◌, ◌++◌, decimal};
 ghost use Rattle.script_printer.specs.Puts.{Puts};
 ghost use Rattle.kernel_texts.specs.Changed.{behind_subject, changed_line, line_or_subject};
 

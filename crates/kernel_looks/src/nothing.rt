@@ -16,8 +16,7 @@ ghost use Rattle.kernel_looks.specs.Nothing.{IsBare, TellNothing, TellsNothing, 
 use kernel_lines::{Declared, Line};
 use kernel_state::Parts;
 use kernel_texts::{ObjectRow, ThreadRow};
-use kernel_thread_facts::is_main;
-use kernel_threads::{Frame, Thread};
+use kernel_threads::{Frame, Thread, is_main};
 use parts_server::Server;
 use parts_waiters::WaitObj;
 use words_numbers::{ObjId, Prio, Tid};

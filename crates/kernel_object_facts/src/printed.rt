@@ -1,5 +1,5 @@
 //! The text of one fact of an object or a signal, printed to a sink.
-ghost use Rattle.std.specs.Prelude.{◌<◌, false, length};
+ghost use Rattle.std.specs.Prelude.{◌<◌, false};
 ghost use Rattle.rules_facts.specs.Signals.{signal_fact};
 ghost use Rattle.script_printer.specs.Puts.{Put, outlet};
 ghost use Rattle.kernel_texts.specs.Lines.{fact_text, facts_text};

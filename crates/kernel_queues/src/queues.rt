@@ -28,7 +28,8 @@ impl Model for Queues {
 }
 
 impl Queues {
-    /// The queues that the script declares, empty and without registrations, with all the room that they will need.
+    /// The queues that the script declares, empty and without registrations, with all the room that they will need. `Err`
+    /// also where a queue is to hold more than 65,536 messages.
     pub fn open(alloc: Global, script: &Script) -> Result<Queues, AllocError>
         ensures { IfOk result (λ queues. queues ≡ queues_of script.now) }
     {

@@ -35,7 +35,7 @@ pub enum FactSeen {
     Arming(ObjId, u64, u64),
     /// The signals that a thread blocks.
     Masked(Tid, u32),
-    /// Whether a thread is to be cancelled, is not to be, and is ending.
+    /// Whether a thread was asked to end, has cancellation disabled, and is ending.
     Cancelability(Tid, bool, bool, bool),
     /// The one replenishment that the server of a thread has planned.
     PlannedOnce(Tid, Replenish),

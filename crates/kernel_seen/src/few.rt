@@ -14,7 +14,7 @@ use words_numbers::{ObjId, Prio};
 // How many are kept at most.
 const MOST: usize = 8;
 
-/// At most 8 threads, by their numbers.
+/// Room for 8 threads, by their numbers; `see_list` keeps at most seven.
 #[derive(Clone, Copy)]
 pub struct FewThreads {
     pub count: u32,
@@ -49,7 +49,7 @@ pub(crate) fn stand_on_list(parts: &Parts, p: Prio, few: &FewThreads) -> bool
     parts.is_list(p, &few.threads[..count])
 }
 
-/// What is seen of the list of a priority; nothing where more threads stand on it than are kept.
+/// What is seen of the list of a priority; nothing where eight or more stand on it.
 pub fn see_list(parts: &Parts, p: Prio) -> FactSeen
     ensures list { IsOf (on_list p (list_of p parts.now.machine.lists)) (fact_seen result) }
     ensures range { p < 2 ^ 64 }

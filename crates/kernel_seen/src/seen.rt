@@ -6,7 +6,7 @@ ghost use Rattle.words_trace.specs.declared.event.CallName.TheVariants as calls;
 ghost use Rattle.rules_machine.specs.Priorities.{assigned_of};
 ghost use Rattle.kernel_threads.specs.Plain.{wait_of, waiting_of};
 ghost use Rattle.rules_facts.specs.Fact.{blocked_thread};
-ghost use Rattle.rules_facts.specs.Threads.{awaited, block_of, priorities_of, thread_fact};
+ghost use Rattle.rules_facts.specs.Threads.{awaited, blocking_of, priorities_of, thread_fact};
 ghost use Rattle.kernel_seen.specs.Seen.{due_of, seen_fact, what_of};
 
 use kernel_state::Parts;
@@ -96,7 +96,7 @@ fn unblocked(status: SeenStatus, assigned: u8, exec: u8) -> Seen
 
 // A thread of these priorities that waits.
 fn blocked(assigned: u8, exec: u8, waiting: &Waiting) -> Seen
-    ensures { (t : ℕ) → seen_fact t result ≡ blocked_thread t (record { assigned = assigned; exec = exec }) (block_of (waiting_of waiting.now)) }
+    ensures { (t : ℕ) → seen_fact t result ≡ blocked_thread t (record { assigned = assigned; exec = exec }) (blocking_of (waiting_of waiting.now)) }
 {
     let (wait, which) = see_wait(&waiting.wait);
     let (has_due, due) = see_due(waiting.due);
@@ -181,7 +181,7 @@ fn is_due(due: Option<Tick>, seen: &Seen) -> bool
 
 // Whether it is the wait that was seen.
 fn is_waiting(waiting: &Waiting, seen: &Seen) -> bool
-    ensures { result ≡ true → record { call = seen.now.call; awaited = what_of seen.now.wait seen.now.which; due = due_of seen.now.has_due seen.now.due } ≡ block_of (waiting_of waiting.now) }
+    ensures { result ≡ true → record { call = seen.now.call; awaited = what_of seen.now.wait seen.now.which; due = due_of seen.now.has_due seen.now.due } ≡ blocking_of (waiting_of waiting.now) }
 {
     if !is_due(waiting.due, seen) {
         return false;

@@ -8,7 +8,8 @@ use Rattle.rules_machine.specs.Lists.{greatest, is, numbers_from}
 use Rattle.rules_machine.specs.State.{Machine, Mutex}
 use Rattle.rules_machine.specs.Threads.{mutex_in, no_mutex}
 use Rattle.rules_machine.specs.Priorities.{Claim, base_in, owner_ceiling, claim_of, claims, exec, exec_in, exec_within, is_inherit, inherit_waiters_in, is_inherit_mutex_of}
-use Rattle.parts_owners.specs.Chains.{IsPriority, OwnersAreThreads}
+use Rattle.parts_owners.specs.Chains.{OwnersAreThreads}
+use Rattle.rules_machine.specs.WellFormed.{IsPriority}
 
 -- the thread owns none of these
 abbrev OwnsNone : ℕ → List Mutex → Type 0

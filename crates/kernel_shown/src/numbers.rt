@@ -1,6 +1,5 @@
 //! The numbers of threads that change at each tick.
-ghost use Rattle.std.specs.Prelude.{◌≡◌, ◌<◌, List, flat_map, length};
-ghost use Rattle.rules_machine.specs.Threads.{thread_at};
+ghost use Rattle.std.specs.Prelude.{◌≡◌, ◌<◌, flat_map, length};
 ghost use Rattle.rules_facts.specs.Numbers.{budget_numbers, frame_numbers, left_numbers, slice_numbers, thread_numbers_told};
 ghost use Rattle.script_printer.specs.Puts.{Puts};
 ghost use Rattle.kernel_texts.specs.Lines.{number_text};

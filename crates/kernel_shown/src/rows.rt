@@ -1,7 +1,7 @@
 //! The rows of facts, each with a fact for each thread or for each object of a kind.
 ghost use Rattle.words_script.specs.declared.name_kind.NameKind.TheVariants as kind;
 ghost use Rattle.script_writer.specs.Names.{names_of};
-ghost use Rattle.std.specs.Prelude.{◌≡◌, ◌≤◌, ◌<◌, ◌++◌, length};
+ghost use Rattle.std.specs.Prelude.{◌≡◌, ◌≤◌, ◌<◌, ◌++◌};
 ghost use Rattle.script_printer.specs.Puts.{Puts};
 ghost use Rattle.kernel_texts.specs.Numbered.{AreNumbered};
 ghost use Rattle.kernel_texts.specs.Rows.{object_count, object_row_text, objects_text, thread_row_text, threads_text};

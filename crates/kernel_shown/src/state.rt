@@ -1,7 +1,7 @@
 //! The text of a state.
 ghost use Rattle.words_script.specs.declared.name_kind.NameKind.TheVariants as kind;
 ghost use Rattle.script_writer.specs.Names.{names_of};
-ghost use Rattle.std.specs.Prelude.{◌≡◌, ◌-◌, ◌≤◌, ◌<◌, false, length};
+ghost use Rattle.std.specs.Prelude.{◌≡◌, ◌-◌, ◌≤◌, ◌<◌, false};
 ghost use Rattle.parts_io.specs.Bytes.{WritesAll};
 ghost use Rattle.parts_io.specs.Causes.{HasCause};
 ghost use Rattle.rules_facts.specs.Shown.{killed_line, once_ended, state_line, state_text};

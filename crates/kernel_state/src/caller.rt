@@ -42,7 +42,7 @@ impl Parts {
         self.tell_return::<K, 0>(by.thread, call_name(by.call), res, value, out);
     }
 
-    /// The same. Each way to it has its own functions.
+    /// The same. For `WAY` see `tell_return`.
     #[inline(always)]
     pub fn returns_by<K: Sink, const WAY: usize>(
         &mut self,

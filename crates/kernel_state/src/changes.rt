@@ -2,7 +2,6 @@
 ghost use Rattle.std.specs.Prelude.{◌≡◌, ◌≤◌, ◌<◌, ◌^◌, length, option_map, true};
 ghost use Rattle.rules_server.specs.Server.{activate};
 ghost use Rattle.rules_machine.specs.Servers.{with_server};
-ghost use Rattle.kernel_threads.specs.Unused.{IsUnused};
 ghost use Rattle.rules_machine.specs.State.{for_mutex_again};
 ghost use Rattle.rules_machine.specs.Threads.{is_blocked, thread_at, waiting_of as waiting_at};
 ghost use Rattle.rules_machine.specs.Lives.{without_life};
@@ -33,7 +32,7 @@ use words_numbers::{ObjId, Prio, Res, SigSet, Tick, Tid};
 use words_script::{Call, Policy};
 
 impl Parts {
-    pub fn answer_thread(&mut self, t: Tid, res: Res, value: u64)
+    pub(crate) fn answer_thread(&mut self, t: Tid, res: Res, value: u64)
         requires { t < length self.old.names }
         ensures { self.new ≡ after (changes t (answered res value)) self.old }
     {

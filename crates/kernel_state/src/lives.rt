@@ -29,10 +29,10 @@ impl Parts {
         requires { t < length self.old.names }
         ensures { self.new ≡ after (changes t requested) self.old }
     {
-        self.table.request(t);
+        self.table.request_end(t);
     }
 
-    /// Whether a request may act in a thread.
+    /// The cancelability of a thread is enabled or disabled.
     pub fn set_enabled(&mut self, t: Tid, on: bool)
         requires { t < length self.old.names }
         ensures { self.new ≡ after (changes t (λ th. record th { is_enabled = on })) self.old }
@@ -45,7 +45,7 @@ impl Parts {
         requires { t < length self.old.names }
         ensures { self.new ≡ after (changes t (ending_with value)) self.old }
     {
-        self.table.end_with(t, value);
+        self.table.begin_end(t, value);
     }
 
     /// A handler of a thread returns to what it interrupted.
@@ -57,7 +57,7 @@ impl Parts {
     }
 
     /// The cleanup handler is the last that the thread pushed.
-    pub fn put_cleanup(&mut self, t: Tid, u: ObjId)
+    pub fn push_cleanup(&mut self, t: Tid, u: ObjId)
         requires known { t < length self.old.names }
         requires room { length (thread_at self.old.machine t).cleanups < 8 }
         ensures { self.new ≡ after (changes t (λ th. record th { cleanups = u ∷ th.cleanups })) self.old }

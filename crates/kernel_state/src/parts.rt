@@ -69,7 +69,10 @@ impl Parts {
         out.put(self.instant, e, &self.names);
     }
 
-    /// A call of a thread returns now. Each way to it has its own functions.
+    /// A call of a thread returns now.
+    ///
+    /// Nothing asks for `WAY`, by which each caller has a function of its own, which is inlined there: 0 `returns`, 1 `wake`, 2 `wake_owner`,
+    /// 3 `mq_send`.
     #[inline(always)]
     pub fn tell_return<K: Sink, const WAY: usize>(
         &self,
@@ -202,7 +205,7 @@ impl Parts {
         self.killed
     }
 
-    pub fn take_serial(&mut self) -> u64
+    pub(crate) fn take_serial(&mut self) -> u64
         requires { self.old.machine.next_serial < 2 ^ 63 }
         ensures value { result ≡ self.old.machine.next_serial }
         ensures state { self.new ≡ after takes_serial self.old }

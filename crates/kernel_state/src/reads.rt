@@ -73,7 +73,8 @@ impl Parts {
         self.ready.is_list(p, threads)
     }
 
-    /// How many lists are empty from that of this priority on, the next lower ones behind it, of so many.
+    /// How many lists are empty from that of this priority on, the next lower ones behind it, of so many. The contract lets
+    /// it tell fewer.
     pub fn empty_lists(&self, p: Prio, most: u32) -> u32
         requires { most ≤ p }
         ensures few { result ≤ most }

@@ -144,7 +144,7 @@ impl Parts {
         self.killed = Some(signal);
     }
 
-    /// The signals that a thread blocks.
+    /// A thread blocks these signals now.
     pub fn set_mask(&mut self, t: Tid, mask: SigSet)
         requires { t < length self.old.names }
         ensures { self.new ≡ after (changes t (λ th. record th { mask = mask })) self.old }

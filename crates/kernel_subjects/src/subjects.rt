@@ -8,7 +8,7 @@ ghost use Rattle.script_lex.specs.Joined.{joined_words};
 ghost use Rattle.script_printer.specs.Puts.{Put, outlet};
 ghost use Rattle.script_writer.specs.Line.{AreShort, spelled};
 ghost use Rattle.script_writer.specs.Names.{name_of, names_of};
-ghost use Rattle.script_writer.specs.Words.{signal_word};
+ghost use Rattle.words_numbers.specs.Words.{signal_word};
 ghost use Rattle.kernel_texts.specs.Rows.{object_count};
 ghost use Rattle.kernel_texts.specs.Kept.{HaveSameRooms, Kept, KeptIn};
 ghost use Rattle.kernel_texts.specs.Numbered.{AreNumbered};

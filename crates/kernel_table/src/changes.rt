@@ -13,7 +13,7 @@ ghost use Rattle.kernel_threads.specs.Running.{HasRun, HasTime};
 ghost use Rattle.kernel_threads.specs.Sleeping.{waits_for_time};
 ghost use Rattle.kernel_table.specs.Table as table;
 ghost use Rattle.kernel_table.specs.Table.{with_thread};
-ghost use Rattle.kernel_table.specs.Movers.{KeepsPriorities, MovesPriority, TellsMoved};
+ghost use Rattle.kernel_table.specs.Movers.{KeepsPriorities, MovesPriority};
 
 use crate::links::{reassign, reassign_changed, stands_nowhere, stop_waiting};
 use crate::movers::thread_of;

@@ -1,11 +1,9 @@
 //! Joining, requests and cleanup handlers: no claim, wait or due item changes.
-ghost use Rattle.std.specs.Prelude.{◌≡◌, ◌≤◌, ◌<◌, ◌∷◌, length, true};
-ghost use Rattle.rules_bodies.specs.declared.cursor.Cursor.{Cursor};
+ghost use Rattle.std.specs.Prelude.{◌≡◌, ◌≤◌, ◌<◌, ◌∷◌, length};
 ghost use Rattle.rules_machine.specs.declared.frame.BodyOf.{BodyOf};
 ghost use Rattle.rules_machine.specs.declared.frame.FrameKind.{FrameKind};
 ghost use Rattle.rules_machine.specs.Cancellation.{requested, without_cleanup};
 ghost use Rattle.rules_machine.specs.Lives.{with_joiner, without_top};
-ghost use Rattle.rules_machine.specs.State.{Thread};
 ghost use Rattle.rules_machine.specs.Threads.{thread_in};
 ghost use Rattle.rules_machine.specs.Waking.{ending_with, new_frame, on_top};
 ghost use Rattle.rules_flat_code.specs.FlatBodies.{flat_bodies};
@@ -22,7 +20,7 @@ use script_code::Code;
 use words_numbers::{ObjId, Tid};
 
 impl Table {
-    /// Who joins it. No execution priority changes.
+    /// That is who joins it now. No execution priority changes.
     pub fn set_joiner(&mut self, t: Tid, joiner: Joiner)
         requires { t < length self.old.threads }
         ensures { KeepsPriorities (with_thread t (with_joiner (joiner_of joiner))) self.old self.new }
@@ -31,14 +29,14 @@ impl Table {
     }
 
     /// It is asked to end. No execution priority changes.
-    pub fn request(&mut self, t: Tid)
+    pub fn request_end(&mut self, t: Tid)
         requires { t < length self.old.threads }
         ensures { KeepsPriorities (with_thread t requested) self.old self.new }
     {
-        self.threads.get_mut(t).request();
+        self.threads.get_mut(t).request_end();
     }
 
-    /// Whether a request may act in it. No execution priority changes.
+    /// Its cancelability is enabled or disabled. No execution priority changes.
     pub fn set_enabled(&mut self, t: Tid, on: bool)
         requires { t < length self.old.threads }
         ensures { KeepsPriorities (with_thread t (λ th. record th { is_enabled = on })) self.old self.new }
@@ -47,11 +45,11 @@ impl Table {
     }
 
     /// It is ending, with that value. No execution priority changes.
-    pub fn end_with(&mut self, t: Tid, value: u64)
+    pub fn begin_end(&mut self, t: Tid, value: u64)
         requires { t < length self.old.threads }
         ensures { KeepsPriorities (with_thread t (ending_with value)) self.old self.new }
     {
-        self.threads.get_mut(t).end_with(value);
+        self.threads.get_mut(t).begin_end(value);
     }
 
     /// Its present body ends, and the one below goes on. No execution priority changes.

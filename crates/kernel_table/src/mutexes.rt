@@ -1,5 +1,5 @@
 //! Owners and counts of mutexes, and who is served first.
-ghost use Rattle.std.specs.Prelude.{◌≡◌, ◌==◌, ◌<◌, Bool, IfSome, Option, None, Some, length, option_map};
+ghost use Rattle.std.specs.Prelude.{◌≡◌, ◌==◌, ◌<◌, Bool, IfSome, Option, None, Some, length};
 ghost use Rattle.rules_machine.specs.Mutexes.{freed, taken_by};
 ghost use Rattle.rules_machine.specs.Priorities.{assigned_of, mutex_awaited_by};
 ghost use Rattle.rules_machine.specs.State.{Wait};
@@ -10,7 +10,7 @@ ghost use Rattle.parts_waiters.specs.Ties.{is_object, object_of};
 ghost use Rattle.parts_owners.specs.Chains.{counted, freed_if, is_plainly_free, taken_if};
 ghost use Rattle.kernel_table.specs.Table as table;
 ghost use Rattle.kernel_table.specs.Table.{best_in, exec, with_mutex, with_thread};
-ghost use Rattle.kernel_table.specs.Movers.{KeepsExec, KeepsOthers, KeepsPriorities, MovesPriority, TellsMoved};
+ghost use Rattle.kernel_table.specs.Movers.{KeepsOthers, KeepsPriorities, MovesPriority, TellsMoved};
 
 use crate::links::stop_awaiting;
 use crate::movers::thread_of;

@@ -1,9 +1,8 @@
 //! The threads, mutexes and timers of a script, before anything has happened.
-ghost use Rattle.std.specs.Prelude.{◌≡◌, ◌≤◌, ◌<◌, ◌+◌, ◌++◌, None, IfOk, length, map, option_to_list, replicate};
+ghost use Rattle.std.specs.Prelude.{◌≡◌, ◌≤◌, ◌<◌, ◌+◌, ◌++◌, None, IfOk, length, map, option_to_list};
 ghost use Rattle.rules_machine.specs.Declarations.{mutex_kind, mutexes_of, named, threads_of, timers_of};
 ghost use Rattle.rules_machine.specs.Runs.{thread_opened};
-ghost use Rattle.rules_machine.specs.Threads.{mutex_in};
-ghost use Rattle.parts_owners.specs.Fresh.{fresh, free_mutex};
+ghost use Rattle.parts_owners.specs.Fresh.{free_mutex};
 ghost use Rattle.kernel_table.specs.Opening.{AreAssigned, NoneWaits};
 ghost use Rattle.kernel_table.specs.Table as table;
 

@@ -6,7 +6,8 @@ ghost use Rattle.rules_machine.specs.Mutexes.{is_boosting};
 ghost use Rattle.rules_machine.specs.State.{Mutex};
 ghost use Rattle.rules_machine.specs.Servers.{has_run};
 ghost use Rattle.rules_machine.specs.Threads.{mutex_in, thread_in};
-ghost use Rattle.parts_owners.specs.Chains.{IsPriority, OwnersAreThreads, closes_cycle_in};
+ghost use Rattle.parts_owners.specs.Chains.{OwnersAreThreads, closes_cycle_in};
+ghost use Rattle.rules_machine.specs.WellFormed.{IsPriority};
 ghost use Rattle.rules_machine.specs.Priorities.{claims};
 ghost use Rattle.kernel_table.specs.Table.{exec};
 

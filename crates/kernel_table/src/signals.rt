@@ -1,10 +1,9 @@
 //! Masks, handlers of signals, and who accepts a signal.
 ghost use Rattle.std.specs.Prelude.{◌≡◌, ◌≤◌, ◌<◌, length, map, None};
 ghost use Rattle.rules_bodies.specs.Next.{capped};
-ghost use Rattle.rules_bodies.specs.declared.cursor.Cursor.{Cursor};
 ghost use Rattle.rules_machine.specs.declared.frame.BodyOf.{BodyOf};
 ghost use Rattle.rules_machine.specs.declared.frame.FrameKind.{FrameKind};
-ghost use Rattle.rules_machine.specs.State.{SignalRecord, Thread};
+ghost use Rattle.rules_machine.specs.State.{SignalRecord};
 ghost use Rattle.rules_machine.specs.Threads.{thread_in};
 ghost use Rattle.rules_machine.specs.Waking.{new_frame, on_top};
 ghost use Rattle.rules_flat_code.specs.FlatBodies.{flat_bodies};
@@ -30,7 +29,7 @@ impl SignalSets for Table {
 }
 
 impl Table {
-    /// The signals that it blocks. No execution priority changes.
+    /// It blocks these signals now. No execution priority changes.
     pub fn set_mask(&mut self, t: Tid, mask: SigSet)
         requires { t < length self.old.threads }
         ensures { KeepsPriorities (with_thread t (λ th. record th { mask = mask })) self.old self.new }

@@ -1,6 +1,6 @@
 //! The threads, the chain of their claims, their places as waiters, the timers, the wheel of what falls due of threads and timers, and
 //! which of them hold a reading of CLOCK_REALTIME.
-ghost use Rattle.std.specs.Prelude.{◌≡◌, ◌<◌, ◌≤◌, length};
+ghost use Rattle.std.specs.Prelude.{◌≡◌, ◌<◌, ◌≤◌};
 
 use crate::rare_set::RareSet;
 use kernel_threads::Threads;

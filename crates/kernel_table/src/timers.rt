@@ -56,7 +56,7 @@ impl Table {
         requires interval { interval ≤ 10 ^ 18 }
         ensures { self.new ≡ with_timer k (armed due is_reading interval) self.old }
     {
-        self.timers.settime(k, due, is_reading, interval);
+        self.timers.set_timer(k, due, is_reading, interval);
         reset(&self.timers, &mut self.wheel, k);
         keep_expiry(&self.timers, &mut self.real_expiries, k);
     }
@@ -86,6 +86,6 @@ impl Table {
         requires { k < length self.old.timers }
         ensures { self.new ≡ with_timer k with_overrun_told self.old }
     {
-        self.timers.accepted(k);
+        self.timers.tell_overrun(k);
     }
 }

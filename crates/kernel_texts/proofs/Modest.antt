@@ -4,7 +4,7 @@ use Rattle.std.specs.List.{AllByRecursion, filter, range_with_len}
 use Rattle.std.specs.Prelude.{cond, ◌==◌}
 use Rattle.std.proofs.lemmas.Fmt.{length-decimal-le}
 use Rattle.words_numbers.specs.Signals.{every_signal, has_signal}
-use Rattle.words_numbers.specs.Words.{sig_code_text}
+use Rattle.words_numbers.specs.Words.{sig_code_text, signal_word}
 use Rattle.words_numbers.specs.declared.sig_code.SigCode.{SigCode}
 use Rattle.words_numbers.specs.declared.sig_code.SigCode.TheVariants as code
 use Rattle.words_script.specs.declared.decl.Decl.{Decl}
@@ -16,12 +16,12 @@ use Rattle.words_trace.specs.declared.event.CallName.TheVariants as call
 use Rattle.script_lex.specs.Joined.{after_blanks, joined_words}
 use Rattle.script_writer.specs.Canon.{Words, flag_words}
 use Rattle.script_writer.specs.Names.{name_of}
-use Rattle.script_writer.specs.Words.{after_commas, joined_by_commas, set_word, signal_word, signals_of}
+use Rattle.script_writer.specs.Words.{after_commas, joined_by_commas, set_word, signals_of}
 use Rattle.rules_machine.specs.declared.frame.BodyOf.{BodyOf}
 use Rattle.rules_machine.specs.declared.frame.BodyOf.TheVariants as body_of
 use Rattle.rules_machine.specs.State.{Message}
 use Rattle.rules_server.specs.declared.Replenish.{Replenish}
-use Rattle.rules_facts.specs.Fact.{Awaited, Block, Cancelability, Fact, Pending, Priorities, arming_of, blocked_thread, cancelability, dormant_thread, ended_thread, inner_frames, masked, messages_of, nothing, on_list, one_signal_of, owner, pending_signals, pushed_cleanups, ready_thread, receivers_of, registration_of, replenishments, semaphore_value, senders_of, thing, waiters_of}
+use Rattle.rules_facts.specs.Fact.{Awaited, Blocking, Cancelability, Fact, Pending, Priorities, arming_of, blocked_thread, cancelability, dormant_thread, ended_thread, inner_frames, masked, messages_of, nothing, on_list, one_signal_of, owner, pending_signals, pushed_cleanups, ready_thread, receivers_of, registration_of, replenishments, semaphore_value, senders_of, thing, waiters_of}
 use Rattle.rules_facts.specs.Spelled.{awaited_words, body_name, mask_words, message_words, pending_words, replenishment_words, subject, target_word, thread_name, told, until_words, words_if_any}
 use Rattle.kernel_texts.specs.Lines.{fact_text, told_text}
 use Rattle.kernel_texts.specs.Modest.{AreModest, IsModest, IsNumber, NamesAreShort, members_in, number_in}
@@ -245,7 +245,7 @@ module _ (decls : List Decl) (names : NamesAreShort decls) where
       let all = cost-append (flag_words (codes "requested") c.is_requested ++ flag_words (codes "disabled") c.is_disabled) (flag_words (codes "ending") c.is_ending) in
       omega (arith, one, two, three, front, all)
 
-  blocked_cost : (priorities : Priorities) (block : Block) → ArePriorities priorities → length (after_blanks (words_if_any until_words block.due)) ≤ 38
+  blocked_cost : (priorities : Priorities) (block : Blocking) → ArePriorities priorities → length (after_blanks (words_if_any until_words block.due)) ≤ 38
       → cost (told decls (blocked_thread 0 priorities block)) ≤ 300
   blocked_cost priorities block fits due =
       let first = two_numbers priorities.assigned priorities.exec fits.assigned fits.exec in
@@ -281,7 +281,7 @@ module _ (decls : List Decl) where
   pub list_short : (p : ℕ) (threads : List ℕ) → IsNumber p → HasShortText decls (on_list p threads)
   list_short p threads fits = record { short = λ names. text_len decls names (on_list p threads) fits (threads_cost decls names threads) }
 
-  pub blocked_short : (t : ℕ) (priorities : Priorities) (block : Block) → ArePriorities priorities → length (after_blanks (words_if_any until_words block.due)) ≤ 38
+  pub blocked_short : (t : ℕ) (priorities : Priorities) (block : Blocking) → ArePriorities priorities → length (after_blanks (words_if_any until_words block.due)) ≤ 38
       → HasShortText decls (blocked_thread t priorities block)
   blocked_short t priorities block fits due =
       record { short = λ names. let all = blocked_cost decls names priorities block fits due in text_len decls names (blocked_thread t priorities block) (omega arith) (omega (arith, all)) }

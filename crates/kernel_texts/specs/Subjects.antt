@@ -7,7 +7,7 @@ use Rattle.words_script.specs.declared.name_kind.NameKind.{NameKind}
 use Rattle.words_script.specs.declared.name_kind.NameKind.TheVariants as kind
 use Rattle.script_lex.specs.Joined.{joined_words}
 use Rattle.script_writer.specs.Names.{name_of, names_of}
-use Rattle.script_writer.specs.Words.{signal_word}
+use Rattle.words_numbers.specs.Words.{signal_word}
 use Rattle.rules_machine.specs.State.{Machine}
 use Rattle.rules_facts.specs.Fact.{Fact}
 use Rattle.kernel_texts.specs.Changed.{subject_text}

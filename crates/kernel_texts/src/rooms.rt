@@ -73,12 +73,18 @@ fn timer_count(script: &Script) -> usize
     name_count(script.decls.items(), NameKind::Timer)
 }
 
+// How many signals may be pending at once.
+const MOST_PENDING: usize = 112;
+
+// The facts of the 255 lists and of the 32 signals.
+const LISTS_AND_SIGNALS: usize = 287;
+
 fn members_told(script: &Script) -> usize
     requires { HasFewOfEach script.now }
     ensures members { result ≡ members_told script.now }
     ensures few { result ≤ 4294967663 }
 {
-    112 + thread_count(script) + deepest(script.decls.items())
+    MOST_PENDING + thread_count(script) + deepest(script.decls.items())
 }
 
 fn facts_told(script: &Script) -> usize
@@ -88,7 +94,11 @@ fn facts_told(script: &Script) -> usize
 {
     let conditions = name_count(script.decls.items(), NameKind::Cond);
     let locks = 2 * mutex_count(script) + conditions + 2 * semaphore_count(script);
-    287 + 6 * thread_count(script) + locks + 4 * queue_count(script) + timer_count(script)
+    LISTS_AND_SIGNALS
+        + 6 * thread_count(script)
+        + locks
+        + 4 * queue_count(script)
+        + timer_count(script)
 }
 
 /// The rooms that the facts of a script's run need at each instant.

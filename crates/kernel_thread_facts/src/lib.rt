@@ -12,4 +12,4 @@ mod threads;
 
 pub use lists::{prio_of, put_list};
 pub use printed::{print_list, print_thread_fact};
-pub use threads::{is_main, put_thread_fact};
+pub use threads::put_thread_fact;

@@ -1,16 +1,14 @@
 //! What is told of threads.
-ghost use Rattle.std.specs.Prelude.{◌≡◌, ◌≤◌, ◌<◌, Option, Some, decimal, length, not};
-ghost use Rattle.std.specs.List.{list_any};
-ghost use Rattle.rules_bodies.specs.declared.cursor.Cursor.{Cursor};
+ghost use Rattle.std.specs.Prelude.{◌≡◌, ◌≤◌, ◌<◌, Option, Some, length, not};
 ghost use Rattle.rules_machine.specs.State.{Frame, for_time};
-ghost use Rattle.rules_machine.specs.Threads.{is_main, no_thread, thread_at};
+ghost use Rattle.rules_machine.specs.Threads.{is_main};
 ghost use Rattle.rules_server.specs.declared.Replenish.{Replenish};
 ghost use Rattle.script_lex.specs.Joined.{after_blanks};
 ghost use Rattle.script_writer.specs.Canon.{flag_words};
 ghost use Rattle.kernel_threads.specs.Plain.{wait_of, waiting_of};
 ghost use Rattle.rules_facts.specs.Fact.{blocked_thread, cancelability, inner_frames, masked, pushed_cleanups, replenishments};
 ghost use Rattle.rules_facts.specs.Spelled.{awaited_words, until_words, words_if_any};
-ghost use Rattle.rules_facts.specs.Threads.{awaited, block_of, cancelability_fact, cleanups_fact, frames_fact, inner_bodies, mask_fact, pending_fact, priorities_of, thread_fact};
+ghost use Rattle.rules_facts.specs.Threads.{awaited, blocking_of, cancelability_fact, cleanups_fact, frames_fact, inner_bodies, mask_fact, pending_fact, priorities_of, thread_fact};
 ghost use Rattle.script_printer.specs.Puts.{Puts};
 ghost use Rattle.kernel_texts.specs.Lines.{fact_text};
 ghost use Rattle.kernel_texts.specs.Rows.{thread_fact_of};
@@ -19,7 +17,7 @@ ghost use Rattle.kernel_texts.specs.Short.{HasShortText};
 use kernel_lines::{Declared, body_name, object_name, thread_name};
 use kernel_state::Parts;
 use kernel_texts::{ThreadRow, put_end, put_more};
-use kernel_threads::{Frame, Status, Wait, Waiting};
+use kernel_threads::{Frame, Status, Wait, Waiting, is_main};
 use parts_io::Sink;
 use parts_server::Replenish;
 use parts_tracer::call_text;
@@ -72,8 +70,8 @@ fn put_sleeper<K: Sink>(
     requires known { t < length parts.now.names }
     requires asleep { wait_of waiting.now.wait ≡ for_time }
     requires until { waiting.now.due ≡ Some until }
-    ensures text { Puts K.text K.faults out.old out.new (fact_text decls.now (blocked_thread t (priorities_of parts.now.machine t) (block_of (waiting_of waiting.now)))) }
-    ensures short { HasShortText decls.now (blocked_thread t (priorities_of parts.now.machine t) (block_of (waiting_of waiting.now))) }
+    ensures text { Puts K.text K.faults out.old out.new (fact_text decls.now (blocked_thread t (priorities_of parts.now.machine t) (blocking_of (waiting_of waiting.now)))) }
+    ensures short { HasShortText decls.now (blocked_thread t (priorities_of parts.now.machine t) (blocking_of (waiting_of waiting.now))) }
 {
     out.line(&[
         Keyword(b"thread"),
@@ -96,8 +94,8 @@ fn put_blocked<K: Sink>(
     waiting: &Waiting,
 )
     requires { t < length parts.now.names }
-    ensures text { Puts K.text K.faults out.old out.new (fact_text decls.now (blocked_thread t (priorities_of parts.now.machine t) (block_of (waiting_of waiting.now)))) }
-    ensures short { HasShortText decls.now (blocked_thread t (priorities_of parts.now.machine t) (block_of (waiting_of waiting.now))) }
+    ensures text { Puts K.text K.faults out.old out.new (fact_text decls.now (blocked_thread t (priorities_of parts.now.machine t) (blocking_of (waiting_of waiting.now)))) }
+    ensures short { HasShortText decls.now (blocked_thread t (priorities_of parts.now.machine t) (blocking_of (waiting_of waiting.now))) }
 {
     out.begin(&[
         Keyword(b"thread"),
@@ -138,16 +136,6 @@ fn put_status<K: Sink>(out: &mut Printer<'_, K>, parts: &Parts, decls: &Declared
 }
 
 // ---- what it has about it
-
-/// Whether a frame is the main one of its thread.
-pub fn is_main(kind: FrameKind) -> bool
-    ensures { result ≡ is_main kind }
-{
-    match kind {
-        FrameKind::Main => true,
-        _ => false,
-    }
-}
 
 // Prints whose bodies it runs above its own, the innermost first.
 fn put_inner_frames<K: Sink>(

@@ -124,7 +124,7 @@ impl Frame {
         self.at.register
     }
 
-    pub fn is_signal(&self) -> bool
+    pub(crate) fn is_signal(&self) -> bool
         ensures { result ≡ is_signal self.now.kind }
     {
         match self.kind {
@@ -176,7 +176,7 @@ impl Frame {
     }
 
     /// It is at the last tick of its body.
-    pub fn begin_finish(&mut self)
+    pub(crate) fn begin_finish(&mut self)
         ensures { self.new ≡ record self.old { left = 1 } }
     {
         self.left = 1;

@@ -64,13 +64,13 @@ impl Thread {
     }
 
     /// It is asked to end.
-    pub fn request(&mut self)
+    pub fn request_end(&mut self)
         ensures { self.new ≡ requested self.old }
     {
         self.is_requested = true;
     }
 
-    /// Whether a request may act in it.
+    /// Its cancelability is enabled or disabled (pthread_setcancelstate).
     pub fn set_enabled(&mut self, on: bool)
         ensures { self.new ≡ record self.old { is_enabled = on } }
     {
@@ -78,7 +78,7 @@ impl Thread {
     }
 
     /// It is ending, with that value.
-    pub fn end_with(&mut self, value: u64)
+    pub fn begin_end(&mut self, value: u64)
         ensures { self.new ≡ ending_with value self.old }
     {
         self.is_ending = true;
@@ -223,7 +223,8 @@ impl Thread {
     }
 }
 
-fn is_main(kind: FrameKind) -> bool
+/// Whether a frame is the main one of its thread.
+pub fn is_main(kind: FrameKind) -> bool
     ensures { result ≡ is_main kind }
 {
     match kind {

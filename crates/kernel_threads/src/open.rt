@@ -1,5 +1,5 @@
 //! The threads of a script, dormant.
-ghost use Rattle.std.specs.Prelude.{◌≡◌, ◌≤◌, ◌++◌, map, length, option_to_list, IfOk};
+ghost use Rattle.std.specs.Prelude.{◌≡◌, ◌≤◌, ◌++◌, map, option_to_list, IfOk};
 ghost use Rattle.rules_machine.specs.Declarations.{declared_thread, threads_of};
 ghost use Rattle.rules_machine.specs.Runs.{thread_opened};
 

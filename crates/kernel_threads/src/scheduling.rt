@@ -1,10 +1,9 @@
 //! How a thread is scheduled: its policy, its priority, its slice and its ticks.
 ghost use Rattle.std.specs.Prelude.{◌≡◌, ◌≤◌, ◌<◌, ◌+◌, ◌^◌, None, true, false, Some};
-ghost use Rattle.rules_machine.specs.Threads.{is_runnable, is_blocked, top_left};
+ghost use Rattle.rules_machine.specs.Threads.{is_runnable, is_blocked};
 ghost use Rattle.rules_machine.specs.Priorities.{assigned_of};
 ghost use Rattle.rules_machine.specs.Scheduling.{at_priority, takes_priority, with_policy, with_priority};
 ghost use Rattle.rules_machine.specs.Ticks.{slice_is_used, without_slice, tick_end};
-ghost use Rattle.rules_leaps.specs.Quiet.{after_ticks, frames_after};
 ghost use Rattle.kernel_threads.specs.Ends.{end_of};
 
 use crate::ends::TickEnd;
@@ -44,7 +43,7 @@ impl Thread {
         }
     }
 
-    /// Of a sporadic or strict thread the high priority changes.
+    /// Its priority is that one; of a sporadic or strict thread it is the high one that changes.
     pub fn set_priority(&mut self, p: Prio)
         requires { takes_priority self.old.policy p ≡ true }
         ensures { self.new ≡ with_priority p self.old }
@@ -65,7 +64,7 @@ impl Thread {
     }
 
     /// Whether its round robin interval is used up.
-    pub fn slice_is_used(&self, quantum: u64) -> bool
+    pub(crate) fn slice_is_used(&self, quantum: u64) -> bool
         ensures { result ≡ slice_is_used self.now.policy self.now.slice quantum }
     {
         match self.policy {
@@ -90,7 +89,7 @@ impl Thread {
         TickEnd::Nothing
     }
 
-    /// Its round robin interval is used up.
+    /// Its round robin interval begins anew.
     pub fn clear_slice(&mut self)
         ensures { self.new ≡ without_slice self.old }
     {

@@ -1,11 +1,10 @@
 //! The sporadic server of a thread.
-ghost use Rattle.std.specs.Prelude.{◌≡◌, ◌≤◌, ◌<◌, ◌^◌, length, None, option_map, option_and_then, true, false, is_some, Some};
+ghost use Rattle.std.specs.Prelude.{◌≡◌, ◌≤◌, ◌<◌, ◌^◌, None, option_map, option_and_then, true, false, is_some, Some};
 ghost use Rattle.rules_server.specs.Server.{ServerState, activate, is_high, next_due, plan, refill, totals};
 ghost use Rattle.rules_machine.specs.Priorities.{assigned_of};
 ghost use Rattle.rules_machine.specs.Servers.{at_once, at_once_as, has_high, has_run, high_server, is_strict, may_open, opening_server, server_of, with_server};
 ghost use Rattle.rules_leaps.specs.Quiet.{server_after};
 ghost use Rattle.kernel_threads.specs.Room.{ServerHasRoom};
-ghost use Rattle.kernel_threads.specs.Unused.{IsUnused};
 ghost use Rattle.rules_machine.specs.Machine.{budget_of};
 ghost use Rattle.rules_machine.specs.Ticks.{capacity_in, consumed_in};
 ghost use Rattle.kernel_threads.specs.Ends.{greatest_pending, planned_of, refilled_of};

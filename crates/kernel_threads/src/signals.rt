@@ -16,16 +16,13 @@ ghost use Rattle.kernel_threads.specs.Signals.{runs_handlers, signals_awaited, s
 use crate::status::{Phase, Wait};
 use crate::thread::Thread;
 use rules_machine::{BodyOf, FrameKind};
-use script_code::Code;
+use script_code::{Code, REGISTER_LIMIT};
 use words_numbers::{ObjId, SigSet, Tick};
 use words_script::Call;
 
-/// The greatest number that a register may hold.
-const REGISTER_LIMIT: u64 = 2_000_000_000_000_000_000;
-
 impl Wait {
     /// Whether a thread that waits so runs no handler.
-    pub fn defers_handlers(&self) -> bool
+    pub(crate) fn defers_handlers(&self) -> bool
         ensures { result ≡ defers_handlers (wait_of self.now) }
     {
         match self {
@@ -42,7 +39,7 @@ impl Wait {
     }
 
     /// The signals that it is for; none where it is for something else.
-    pub fn signals(&self) -> SigSet
+    pub(crate) fn signals(&self) -> SigSet
         ensures { result ≡ signals_in (wait_of self.now) }
     {
         match self {

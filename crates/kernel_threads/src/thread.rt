@@ -5,15 +5,12 @@ ghost use Rattle.rules_machine.specs.Threads.{is_runnable, is_dormant, no_thread
 ghost use Rattle.rules_bodies.specs.Next.{register_limit};
 ghost use Rattle.rules_flat_code.specs.KnownCalls.{IsOperand};
 ghost use Rattle.kernel_threads.specs.Operands.{number_in};
-ghost use Rattle.rules_machine.specs.Servers.{server_of, charged};
+ghost use Rattle.rules_machine.specs.Servers.{server_of};
 ghost use Rattle.rules_machine.specs.Turns.{answered};
 ghost use Rattle.rules_machine.specs.Waking.{woken, put_to_wait, call_in};
 ghost use Rattle.rules_machine.specs.DueItems.{start_in};
-ghost use Rattle.rules_machine.specs.Lives.{inherited_mask, without_life};
+ghost use Rattle.rules_machine.specs.Lives.{inherited_mask};
 ghost use Rattle.rules_machine.specs.State as machine;
-ghost use Rattle.rules_machine.specs.Units.{in_unit};
-ghost use Rattle.rules_flat_code.specs.FlatBodies.{flat_bodies};
-ghost use Rattle.rules_flat_code.specs.Placed.{ArePlaced};
 ghost use Rattle.kernel_threads.specs.Plain.{status_of, wait_of};
 ghost use Rattle.kernel_threads.specs.declared.status.Status.TheVariants as Status;
 ghost use Rattle.rules_machine.specs.State.{for_mutex_again};
@@ -63,11 +60,7 @@ impl Model for Thread {
 
     ghost Value = { machine.Thread Cursor };
 
-    ghost use Rattle.rules_machine.specs.Servers.{charged};
     ghost use Rattle.rules_machine.specs.Threads.{top_left};
-    ghost use Rattle.rules_machine.specs.Units.{in_unit};
-    ghost use Rattle.rules_flat_code.specs.FlatBodies.{flat_bodies};
-    ghost use Rattle.rules_flat_code.specs.Placed.{ArePlaced};
     ghost use Rattle.kernel_threads.specs.Plain.{joiner_of, status_in};
 
     ghost view = { λ t. record { status = status_in t.phase t.start t.waiting; policy = t.policy; server = t.server; slice = t.slice; ticks = t.ticks; mask = t.mask; frames = t.frames; is_requested = t.is_requested; is_enabled = t.is_enabled; is_ending = t.is_ending; cleanups = t.cleanups.items; exit_value = t.exit_value; joiner = joiner_of t.joiner } };
@@ -251,7 +244,7 @@ impl Thread {
         }
     }
 
-    pub fn catches_signal(&self) -> bool
+    pub(crate) fn catches_signal(&self) -> bool
         ensures { result ≡ catches_signal self.now }
     {
         match self.frames.as_slice().first() {

@@ -1,5 +1,5 @@
 //! The threads by their numbers.
-ghost use Rattle.std.specs.Prelude.{◌≡◌, ◌<◌, ◌≤◌, length, map, slice_index_or, IfOk};
+ghost use Rattle.std.specs.Prelude.{◌≡◌, ◌<◌, ◌≤◌, length, map, IfOk};
 ghost use Rattle.rules_machine.specs.Declarations.{threads_of};
 ghost use Rattle.rules_machine.specs.Runs.{thread_opened};
 ghost use Rattle.std.specs.Borrow.{sem};

@@ -105,7 +105,7 @@ impl Timer {
         };
     }
 
-    pub(crate) fn accepted(&mut self)
+    pub(crate) fn tell_overrun(&mut self)
         ensures { self.new ≡ with_overrun_told self.old }
     {
         self.overrun = self.extra;

@@ -54,7 +54,7 @@ impl Timers {
 
     /// The timer is due at that tick, and then again after each interval of so many ticks, at most 10^18; with an interval of 0 once.
     /// With None it is disarmed.
-    pub fn settime(&mut self, k: ObjId, due: Option<Tick>, is_reading: bool, interval: u64)
+    pub fn set_timer(&mut self, k: ObjId, due: Option<Tick>, is_reading: bool, interval: u64)
         requires known { k < length self.old }
         requires interval { interval ≤ 10 ^ 18 }
         ensures { self.new ≡ with_timer k (armed due is_reading interval) self.old }
@@ -89,10 +89,10 @@ impl Timers {
     }
 
     /// The timer's signal was delivered or accepted: the expiries counted since it became pending are its overrun, and are counted anew.
-    pub fn accepted(&mut self, k: ObjId)
+    pub fn tell_overrun(&mut self, k: ObjId)
         requires { k < length self.old }
         ensures { self.new ≡ with_timer k with_overrun_told self.old }
     {
-        self.items[k.get() as usize].accepted();
+        self.items[k.get() as usize].tell_overrun();
     }
 }

@@ -4,12 +4,12 @@
 //! Proved: each wait for what is no mutex, wake, start, activation, plan and request that acts is the effect of the rules, with the lines told.
 #![tactic(auto)]
 
-mod blocking;
+mod blocks;
 mod cancels;
 mod servers;
 mod wakes;
 
-pub use blocking::{block_unless_late, is_late};
+pub use blocks::{block_unless_late, is_late};
 pub use cancels::{cancel_now, wake_cancelled, wake_cancelled_owner};
 pub use servers::{activate, activate_now, plan};
 pub use wakes::{start, wake, wake_owner};

@@ -32,7 +32,7 @@ pub(crate) fn rise<K: Sink>(p: &mut Parts, e: &Event, t: Tid, out: &mut Tracer<'
     activate_if_high(p, t, out);
 }
 
-/// The same of a thread whose call returns. Each way to it has its own functions.
+/// The same of a thread whose call returns. For `WAY` see `tell_return` of `kernel_state`.
 #[inline(always)]
 pub(crate) fn rise_answered<K: Sink, const WAY: usize>(
     p: &mut Parts,

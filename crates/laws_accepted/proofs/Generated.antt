@@ -7,7 +7,7 @@ use Rattle.words_script.specs.declared.call.Call.TheVariants as call
 use Rattle.words_script.specs.declared.policy.Policy.{Policy}
 use Rattle.script_generator.specs.Draws.{Drawn, draw, next}
 use Rattle.script_generator.specs.Generated.{after_deed, deed_of, hold, policy_from, policy_of, script_of, task_from, thread_from, threads_from}
-use Rattle.rules_machine.specs.WellFormed.{BlockFits, DeclsFit, DeclsGuarded, IsPriority, IsWellFormed, PolicyFits, StepsPlain, depth}
+use Rattle.rules_machine.specs.WellFormed.{BlockFits, DeclsFit, DeclsGuarded, IsPriority, IsWellFormed, PolicyFits, StepsPlain, guard_depth}
 
 chosen : {A : Type 0} (P : A → Type 0) (b : Bool) (x y : A) → P x → P y → P (if b then x else y)
 chosen P true x y h k = h
@@ -31,9 +31,9 @@ deed_plain : (deed ticks : ℕ) (rest : Block) → StepsPlain rest → StepsPlai
 deed_plain deed ticks rest h =
     chosen StepsPlain (deed == 0) _ _ (refl, (refl, h)) (chosen StepsPlain (deed == 1) _ _ (refl, (refl, h)) (chosen StepsPlain (deed == 2) _ _ (refl, (refl, h)) (refl, h)))
 
-deed_flat : (deed ticks : ℕ) (rest : Block) → depth rest ≤ 0 → depth (deed_of deed ticks rest) ≤ 0
+deed_flat : (deed ticks : ℕ) (rest : Block) → guard_depth rest ≤ 0 → guard_depth (deed_of deed ticks rest) ≤ 0
 deed_flat deed ticks rest h =
-    chosen (λ b. depth b ≤ 0) (deed == 0) _ _ h (chosen (λ b. depth b ≤ 0) (deed == 1) _ _ h (chosen (λ b. depth b ≤ 0) (deed == 2) _ _ h h))
+    chosen (λ b. guard_depth b ≤ 0) (deed == 0) _ _ h (chosen (λ b. guard_depth b ≤ 0) (deed == 1) _ _ h (chosen (λ b. guard_depth b ≤ 0) (deed == 2) _ _ h h))
 
 task_fits : (g : ℕ) → BlockFits (task_from g).value
 task_fits g = (deed_fits (draw 4 (next g)) _ (Making (call.Nanosleep _) Nothing) (tt, tt), tt)
@@ -41,7 +41,7 @@ task_fits g = (deed_fits (draw 4 (next g)) _ (Making (call.Nanosleep _) Nothing)
 task_plain : (g : ℕ) → StepsPlain (task_from g).value
 task_plain g = (deed_plain (draw 4 (next g)) _ (Making (call.Nanosleep _) Nothing) (refl, tt), tt)
 
-task_flat : (g : ℕ) → depth (task_from g).value ≤ 8
+task_flat : (g : ℕ) → guard_depth (task_from g).value ≤ 8
 task_flat g =
     let behind : ℕ = after_deed (draw 4 (next g)) (next (next g)) in
     let h = deed_flat (draw 4 (next g)) (hold (draw 4 (next g)) (next (next g))) (Making (call.Nanosleep (1 + draw 500 behind)) Nothing) (omega arith) in

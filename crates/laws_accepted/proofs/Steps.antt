@@ -6,7 +6,7 @@ use Rattle.words_script.specs.Tree.{block_of}
 use Rattle.words_script.specs.declared.body.Step.{Step}
 use Rattle.words_script.specs.declared.call.Call.{Call}
 use Rattle.words_script.specs.declared.body.Step.TheVariants.{Run, Make, Set, Add, Take, Test, Loop, Guard}
-use Rattle.rules_machine.specs.WellFormed.{BlockFits, StepsPlain, depth}
+use Rattle.rules_machine.specs.WellFormed.{BlockFits, StepsPlain, guard_depth}
 use Rattle.script_table.specs.declared.form.CallForm.{CallForm}
 use Rattle.script_table.specs.declared.form.StepForm.{StepForm}
 use Rattle.script_table.specs.declared.form.StepForm.TheVariants as step
@@ -25,7 +25,7 @@ use Rattle.laws_accepted.proofs.Calls.{IsPlainCall, call_plain}
 pub record AreSound (limit round : ℕ) (steps : List Step) : Type 0 where
   pub fits : BlockFits (block_of steps)
   pub plain : StepsPlain (block_of steps)
-  pub deep : depth (block_of steps) + round ≤ limit
+  pub deep : guard_depth (block_of steps) + round ≤ limit
 
 abbrev pub IsSound : ℕ → ℕ → Step → Type 0
 IsSound limit round s = AreSound limit round (s ∷ [])
@@ -54,8 +54,8 @@ more_plain (Test res equal body ∷ steps) s old new = (old.0, more_plain steps 
 more_plain (Loop times body ∷ steps) s old new = (old.0, more_plain steps s old.1 new)
 more_plain (Guard cleanup body run ∷ steps) s old new = (old.0, more_plain steps s old.1 new)
 
-more_deep : (steps : List Step) (s : Step) (limit round : ℕ) → depth (block_of steps) + round ≤ limit → depth (block_of (s ∷ [])) + round ≤ limit →
-    depth (block_of (steps ++ s ∷ [])) + round ≤ limit
+more_deep : (steps : List Step) (s : Step) (limit round : ℕ) → guard_depth (block_of steps) + round ≤ limit → guard_depth (block_of (s ∷ [])) + round ≤ limit →
+    guard_depth (block_of (steps ++ s ∷ [])) + round ≤ limit
 more_deep [] s limit round old new = new
 more_deep (Run n ∷ steps) s limit round old new = more_deep steps s limit round old new
 more_deep (Make call ∷ steps) s limit round old new = more_deep steps s limit round old new

@@ -35,8 +35,8 @@ module _ (lim : Limits) where
 
   module _ (tolled : Bool) (now : ℕ) (status : Status) (rule : Policy) (server : Option ServerState) (ran : ℕ) (b : Account) (f : Fits lim false tolled (Booked lim) now status rule server ran b)
       (having : is_some server ≡ (is_live status && has_server_policy rule)) (none : (x : ServerState) → server ≡ Some x → NotDue now x) where
-    sporadic : has_server_policy rule ≡ true
-    sporadic = ap has_server_policy f.limits.1
+    served : has_server_policy rule ≡ true
+    served = ap has_server_policy f.limits.1
 
     -- no refill is missing
     missing : (not b.exited && list_any (λ (p : Planned). nat_le p.from b.now) b.ahead) ≡ false
@@ -49,7 +49,7 @@ module _ (lim : Limits) where
             second c k = grind arith
 
         dead : is_some server ≡ false → is_live status ≡ false
-        dead e = first (is_live status) (has_server_policy rule) sporadic (sym having ∙ e)
+        dead e = first (is_live status) (has_server_policy rule) served (sym having ∙ e)
           where
             first : (c d : Bool) → d ≡ true → (c && d) ≡ false → c ≡ false
             first c d p k = grind arith
@@ -106,7 +106,7 @@ module _ (lim : Limits) where
             by_status ended e = absurd (grind arith)
 
         some : is_some server ≡ true
-        some = having ∙ is_rule rule (is_live status) live rule sporadic refl
+        some = having ∙ is_rule rule (is_live status) live rule served refl
 
         high_is : (x : ServerState) → server ≡ Some x → has_high server ≡ is_high x
         high_is x e = ap has_high e ∙ by_high (is_high x)

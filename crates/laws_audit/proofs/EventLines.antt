@@ -25,7 +25,7 @@ use Rattle.tool_audit.specs.Breach.{end_time, has_closing, has_ended, is_closing
 use Rattle.tool_audit.specs.Replay.{Account, Rising, advanced, after_mark}
 use Rattle.tool_audit.proofs.Counts.{AllBy, any_more, by_later, by_more, map_more}
 use Rattle.tool_audit.proofs.Replays.{advanced_now}
-use Rattle.tool_audit.proofs.Walks.{NoClosing, OrderKept, ServerKept, blank, high_before_blank, lives_blank, all_blank, ran_before_blank}
+use Rattle.tool_audit.proofs.Walks.{OrderKept, ServerKept, blank, high_before_blank, lives_blank, all_blank, ran_before_blank}
 use Rattle.laws_audit.specs.Events.{is_end_event, mark_by, marks_by}
 use Rattle.laws_audit.proofs.Order.{Climbs}
 use Rattle.laws_audit.specs.Traces.{NamesApart, event_readings, report_readings}
@@ -104,10 +104,6 @@ end_same event.End = refl
 closing_form : (o : Option BudgetView) → is_closing (form_of_report o) ≡ true
 closing_form None = refl
 closing_form (Some b) = refl
-
-no_closing : (names : List (List ℕ)) (es : List Entry) → NoClosing (event_readings names es)
-no_closing names [] = tt
-no_closing names (e ∷ es) = (not_closing e.event, no_closing names es)
 
 ended_same : (names : List (List ℕ)) (es : List Entry) → has_ended (event_readings names es) ≡ has_end es
 ended_same names [] = refl

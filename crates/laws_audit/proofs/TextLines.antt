@@ -4,7 +4,7 @@ use Rattle.std.specs.Prelude.{◌==◌, decimal, codes, map}
 use Rattle.std.specs.Fmt.{digits}
 use Rattle.std.specs.List.{list_all, range_with_len, join_with_byte}
 use Rattle.std.proofs.lemmas.List.FromFn.{get_or-range_with_len, length-range_with_len}
-use Rattle.words_numbers.specs.Words.{res_text, sig_code_text}
+use Rattle.words_numbers.specs.Words.{res_text, sig_code_text, signal_word}
 use Rattle.words_numbers.specs.declared.res.Res.{Res}
 use Rattle.words_numbers.specs.declared.res.Res.TheVariants as res
 use Rattle.words_numbers.specs.declared.sig_code.SigCode.{SigCode}
@@ -20,7 +20,7 @@ use Rattle.words_trace.specs.declared.event.Event.{Event}
 use Rattle.words_trace.specs.declared.event.Event.TheVariants as event
 use Rattle.words_trace.specs.declared.report.BudgetView.{BudgetView}
 use Rattle.words_trace.specs.Calls.{call_word}
-use Rattle.words_trace.specs.Text.{Entry, budget_words, event_words, line, lines, name_at, report_words, signal_name}
+use Rattle.words_trace.specs.Text.{Entry, budget_words, event_words, line, lines, name_at, report_words}
 use Rattle.tool_check.specs.Words.{greatest}
 use Rattle.tool_check.specs.Laws.{IsBudgetSpelled, IsSpelled, said, said_of_report}
 use Rattle.tool_check.specs.Lines.{Reading, reading}
@@ -61,7 +61,7 @@ number_inner n h = all_more is_digit is_inner digit_inner (decimal n) (are_digit
 name_inner : (w : List ℕ) → is_name w ≡ true → IsInner w
 name_inner w e = let h = both (begins_with_letter w) _ e in all_more is_name_byte is_inner byte_inner w (both (list_all is_name_byte w) _ h.1).0
 
-each_signal : list_all (λ k. list_all is_inner (signal_name k)) (range_with_len 0 32) ≡ true
+each_signal : list_all (λ k. list_all is_inner (signal_word k)) (range_with_len 0 32) ≡ true
 unfolding digits
 each_signal = refl
 
@@ -70,12 +70,12 @@ all_at p [] i d h e = absurd (omega arith)
 all_at p (x ∷ xs) zero d h e = (both (p x) (list_all p xs) e).0
 all_at p (x ∷ xs) (suc i) d h e = all_at p xs i d (omega arith) (both (p x) (list_all p xs) e).1
 
-signal_inner : (k : ℕ) → k < 32 → IsInner (signal_name k)
+signal_inner : (k : ℕ) → k < 32 → IsInner (signal_word k)
 signal_inner k h =
     let same : get_or (range_with_len 0 32) k 0 ≡ 0 + k = get_or-range_with_len 0 32 k 0 h in
     let number : 0 + k ≡ k = omega arith in
     let room : k < length (range_with_len 0 32) = omega (arith, length-range_with_len 0 32) in
-    subst (λ j. list_all is_inner (signal_name j) ≡ true) (same ∙ number) (all_at (λ j. list_all is_inner (signal_name j)) (range_with_len 0 32) k 0 room each_signal)
+    subst (λ j. list_all is_inner (signal_word j) ≡ true) (same ∙ number) (all_at (λ j. list_all is_inner (signal_word j)) (range_with_len 0 32) k 0 room each_signal)
 
 answer_inner : (r : Res) → IsInner (res_text r)
 answer_inner res.Zero = refl

@@ -14,8 +14,8 @@ ghost use Rattle.script_table.specs.Read.{read};
 ghost use Rattle.script_table.specs.Table.{patterns};
 ghost use Rattle.words_script.specs.declared.decl.Script.{Script};
 
-/// Whatever text is read without a fault, its script can be run: it has at most 256 threads, 16 queues and 32 timers, its bodies are not
-/// too long and not nested too deeply, each call and each action names what the script declares, the numbers of calls are in range, each
+/// Whatever text is read without a fault, its script can be run: it has at most 256 threads, 16 queues and 32 timers, each body has at
+/// most 65,536 steps and 16 blocks inside one another, each call and each action names what the script declares, the numbers of calls are in range, each
 /// server has a budget, each semaphore's value is one that it may have, and each timer sends one of the 32 signals.
 pub fn accepted_scripts_are_runnable()
     ensures { (text : List ℕ) (script : Script) → read patterns text ≡ Ok script → IsRunnable script }

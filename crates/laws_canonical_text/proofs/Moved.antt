@@ -67,10 +67,6 @@ rises_without n (s ∷ ss) h =
     let one = h.0 in
     keep_case (Rises n) s.row.form s (without ss) (λ q. rises_down n (s.line + 1) (without ss) (omega arith) ih) (λ other. (h.0, ih))
 
-pub sound_without : (ss : List Said) → AllSound ss → AllSound (without ss)
-sound_without [] h = tt
-sound_without (s ∷ ss) h = let ih = sound_without ss h.1 in keep_case AllSound s.row.form s (without ss) (λ q. ih) (λ other. (h.0, ih))
-
 pub names_without : (d : Declared) (ss : List Said) → phase_two d ss ≡ [] → phase_two d (without ss) ≡ []
 names_without d [] e = e
 names_without d (s ∷ ss) e =

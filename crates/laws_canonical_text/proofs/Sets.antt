@@ -9,7 +9,8 @@ use Rattle.std.proofs.lemmas.List.Folds.{list_all-append}
 use Rattle.script_lex.proofs.Rejoined.{both}
 use Rattle.words_numbers.specs.Signals.{every_signal, has_signal, with_signal}
 use Rattle.script_table.specs.Words.{signal_of, onto_part, parts_of, with_part, with_parts, set_of}
-use Rattle.script_writer.specs.Words.{signal_word, signals_of, after_commas, joined_by_commas, set_word}
+use Rattle.script_writer.specs.Words.{signals_of, after_commas, joined_by_commas, set_word}
+use Rattle.words_numbers.specs.Words.{signal_word}
 use Rattle.script_writer.proofs.Signals.{signals_below, below_with, below_without}
 use Rattle.laws_canonical_text.proofs.Signals.{signal_of-signal_word, no_comma, word_bytes}
 use Rattle.script_lex.specs.Joined.{is_word_byte, is_word}

@@ -43,7 +43,7 @@ use Rattle.std.specs.Prelude.{unwrap_or, if◌then◌else◌}
 use Rattle.std.specs.Option.{option_map}
 use Rattle.words_script.specs.declared.call.Call.TheVariants as calls
 use Rattle.words_numbers.specs.declared.res.Res.{Res}
-use Rattle.words_numbers.specs.Words.{res_text}
+use Rattle.words_numbers.specs.Words.{res_text, signal_word}
 use Rattle.words_script.specs.Names.{is_name}
 use Rattle.words_script.specs.Tree.{block_of}
 use Rattle.words_script.specs.declared.body.Step.{Step}
@@ -57,7 +57,7 @@ use Rattle.script_table.specs.Patterns.{greatest}
 use Rattle.script_table.specs.Words.{signal_of, answer_of}
 use Rattle.script_table.specs.Ranges.{is_within, server_faults, word}
 use Rattle.script_writer.specs.Names.{name_of}
-use Rattle.script_writer.specs.Words.{operand_word, signal_word, set_word}
+use Rattle.script_writer.specs.Words.{operand_word, set_word}
 use Rattle.script_writer.specs.Canon.{Words, call_words, block_lines, decl_lines, end_words, pop_words}
 
 -- an operand that is written as the word that it is read from

@@ -7,7 +7,7 @@ use Rattle.std.proofs.lemmas.List.FromFn.{get_or-range_with_len, length-range_wi
 use Rattle.script_lex.proofs.Rejoined.{both}
 use Rattle.script_lex.specs.Joined.{is_word_byte}
 use Rattle.script_table.specs.Words.{signal_of}
-use Rattle.script_writer.specs.Words.{signal_word}
+use Rattle.words_numbers.specs.Words.{signal_word}
 
 abbrev is_it : ℕ → Option ℕ → Bool
 is_it k None = false

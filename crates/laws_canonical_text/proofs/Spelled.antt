@@ -10,7 +10,7 @@ use Rattle.std.proofs.lemmas.List.FromFn.{get_or-range_with_len, length-range_wi
 use Rattle.script_lex.proofs.Rejoined.{both}
 use Rattle.words_numbers.specs.declared.res.Res.{Res}
 use Rattle.words_numbers.specs.declared.res.Res.TheVariants as res
-use Rattle.words_numbers.specs.Words.{res_text}
+use Rattle.words_numbers.specs.Words.{res_text, signal_word}
 use Rattle.words_script.specs.Names.{is_digit, is_name}
 use Rattle.words_script.specs.declared.decl.Decl.{Decl}
 use Rattle.words_script.specs.declared.call.Operand.TheVariants.{Num, Reg}
@@ -23,7 +23,6 @@ use Rattle.script_table.specs.LineFaults.{stands, fits, spelling, place_faults}
 use Rattle.script_table.specs.Ranges.{range_fault, is_within}
 use Rattle.script_table.specs.Names.{Entry, entry_of, Declared, name_fault, used}
 use Rattle.script_writer.specs.Names.{name_of}
-use Rattle.script_writer.specs.Words.{signal_word}
 use Rattle.laws_canonical_text.proofs.Bounds.{if_some}
 use Rattle.laws_canonical_text.proofs.Declares.{same_kind_is}
 use Rattle.laws_canonical_text.proofs.Signals.{all_at}

@@ -1,9 +1,9 @@
 //! What is written as one word is read back.
 ghost use Rattle.std.specs.Prelude.{◌≡◌, ◌≤◌, ◌^◌, ◌∷◌, [], true, Some, decimal};
-ghost use Rattle.words_numbers.specs.Words.{res_text};
+ghost use Rattle.words_numbers.specs.Words.{res_text, signal_word};
 ghost use Rattle.script_table.specs.Words.{is_number, value_of, signal_of, set_of, answer_of};
 ghost use Rattle.script_table.specs.Operands.{operand_at};
-ghost use Rattle.script_writer.specs.Words.{operand_word, signal_word, set_word};
+ghost use Rattle.script_writer.specs.Words.{operand_word, set_word};
 ghost use Rattle.laws_canonical_text.specs.Laws.{IsInScript};
 
 use words_numbers::{Res, SigSet};

@@ -25,7 +25,7 @@ use Rattle.rules_facts.specs.Objects.{in_service_order, owner_fact, semaphore_fa
 use Rattle.rules_facts.specs.Order.{in_order}
 use Rattle.rules_facts.specs.Queues.{messages_fact, registration_fact, senders_and_receivers}
 use Rattle.rules_facts.specs.Signals.{signal_fact}
-use Rattle.rules_facts.specs.Threads.{block_of, cancelability_fact, cleanups_fact, frames_fact, inner_bodies, living, mask_fact, pending_fact, planned, priorities_of, status_fact, thread_fact}
+use Rattle.rules_facts.specs.Threads.{blocking_of, cancelability_fact, cleanups_fact, frames_fact, inner_bodies, living, mask_fact, pending_fact, planned, priorities_of, status_fact, thread_fact}
 
 -- what is told of a thread, but its execution priority
 pub record Seen : Type 0 where
@@ -99,7 +99,7 @@ module _ {P : Type 0} (m : Machine P) (threads : List (Thread P)) (now : ℕ) (l
     by_status : (t : ℕ) (status : Status) → status_fact other t status ≡ status_fact m t status
     by_status t (dormant at) = refl
     by_status t runnable = ap (ready_thread t) (priorities_same t)
-    by_status t (blocked w) = ap (λ (p : Priorities). blocked_thread t p (block_of w)) (priorities_same t)
+    by_status t (blocked w) = ap (λ (p : Priorities). blocked_thread t p (blocking_of w)) (priorities_same t)
     by_status t ended = refl
 
     status_same : (t : ℕ) → thread_fact other t ≡ thread_fact m t

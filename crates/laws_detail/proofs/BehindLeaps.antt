@@ -15,7 +15,7 @@ use Rattle.rules_machine.proofs.Joined.{ticks_add}
 use Rattle.rules_leaps.specs.Leap.{IsLeap, leap}
 use Rattle.rules_leaps.specs.Quiet.{IsQuiet, handled_at}
 use Rattle.laws_leaps.proofs.Leaps.Lengths.{IsReady}
-use Rattle.rules_facts.specs.Detail.{changed, changed_at}
+use Rattle.rules_facts.specs.Detail.{changed, facts_changed_at}
 use Rattle.rules_facts.specs.Fact.{Fact}
 use Rattle.rules_facts.specs.Facts.{facts}
 use Rattle.rules_facts.specs.Shown.{shown_machine}
@@ -56,12 +56,12 @@ module _ (script : Script) (fits : IsWellFormed script) (most n : ℕ) (some : 1
     inside zero high = (let here : n + 0 ≡ n = omega arith in ap (λ (j : ℕ). facts script (shown_machine script j)) here)
     inside (suc i) high = same_facts script fits most n some (suc i) (omega arith) high ∙ second (omega (arith, high))
 
-    none_changes_behind : changed_at script (n + long) ≡ []
+    none_changes_behind : facts_changed_at script (n + long) ≡ []
     none_changes_behind =
         let one = law.some in
         let back : n + long ≡ suc (n + (long - 1)) = omega (arith, one) in
         let last : long - 1 < long = omega (arith, one) in
-        ap (changed_at script) back
+        ap (facts_changed_at script) back
         ∙ ap (λ (fs : List Fact). changed script.decls (facts script (shown_machine script (n + (long - 1)))) fs)
         (ap (λ (j : ℕ). facts script (shown_machine script j)) (sym back) ∙ behind_it ∙ sym (inside (long - 1) last))
         ∙ none_changed script.decls (facts script (shown_machine script (n + (long - 1))))

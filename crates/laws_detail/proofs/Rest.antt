@@ -26,7 +26,7 @@ use Rattle.laws_leaps.proofs.Leaps.Bounds.{more_calm, no_calm}
 use Rattle.laws_leaps.proofs.Leaps.Calm.{Calm, Handled, calm_ticks, matters_after}
 use Rattle.laws_leaps.proofs.Leaps.Lengths.{IsReady, is_leap}
 use Rattle.laws_leaps.proofs.Leaps.Scripts.{stays_ready}
-use Rattle.rules_facts.specs.Detail.{changed, changed_at, fact_lines_at, timed_line}
+use Rattle.rules_facts.specs.Detail.{changed, facts_changed_at, fact_lines_at, timed_line}
 use Rattle.rules_facts.specs.Fact.{Fact}
 use Rattle.rules_facts.specs.Facts.{facts}
 use Rattle.rules_facts.specs.Shown.{shown_machine}
@@ -123,15 +123,15 @@ module _ (script : Script) (fits : IsWellFormed script) (most n : ℕ) (some : 1
       ∙ rests bodies' (machine script n) start_ready.still start_ready.handled script i (λ j some' le. leap.inside j some' (omega arith)) i low (omega arith)
       ∙ sym (later_shown 1)
 
-  no_change : (i : ℕ) → 1 < i → i < leap_at script most n → changed_at script (n + i) ≡ []
+  no_change : (i : ℕ) → 1 < i → i < leap_at script most n → facts_changed_at script (n + i) ≡ []
   no_change i low high = by_number i low high
     where
-      by_number : (j : ℕ) → 1 < j → j < leap_at script most n → changed_at script (n + j) ≡ []
+      by_number : (j : ℕ) → 1 < j → j < leap_at script most n → facts_changed_at script (n + j) ≡ []
       by_number zero low high = absurd (omega arith)
       by_number (suc j) low high =
           let next : n + suc j ≡ suc (n + j) = omega arith in
           let back : suc (n + j) ≡ n + suc j = omega arith in
-          ap (changed_at script) next
+          ap (facts_changed_at script) next
           ∙ ap (λ (fs : List Fact). changed script.decls (facts script (shown_machine script (n + j))) fs)
           (ap (λ (k : ℕ). facts script (shown_machine script k)) back ∙ same_facts (suc j) (omega arith) high ∙ sym (same_facts j (omega arith) (omega arith)))
           ∙ none_changed script.decls (facts script (shown_machine script (n + j)))
@@ -139,7 +139,7 @@ module _ (script : Script) (fits : IsWellFormed script) (most n : ℕ) (some : 1
   no_lines : (end i : ℕ) → 1 < i → i < leap_at script most n → fact_lines_at script end (n + i) ≡ []
   no_lines end i low high = by_end (nat_lt (n + i) end)
     where
-      by_end : (b : Bool) → (if b then flat_map (timed_line script.decls (n + i)) (changed_at script (n + i)) else []) ≡ []
+      by_end : (b : Bool) → (if b then flat_map (timed_line script.decls (n + i)) (facts_changed_at script (n + i)) else []) ≡ []
       by_end true = ap (flat_map (timed_line script.decls (n + i))) (no_change i low high)
       by_end false = refl
 
@@ -176,6 +176,6 @@ none_changes script fits n plain calm =
     let at = stays_ready bodies (bodies_fit script fits.priorities) script fits n in
     let one : n + 1 ≡ suc n = omega arith in
     let quiet : IsQuiet bodies 1 (machine script n) = λ i low high. (let it : 1 ≡ i = omega (arith, low, high) in ap (is_eventful bodies (machine script n)) (sym it) ∙ calm) in
-    ap (changed_at script) one
+    ap (facts_changed_at script) one
     ∙ ap (λ (fs : List Fact). changed script.decls (facts script (shown_machine script n)) fs) (stays bodies (machine script n) at.still at.handled script plain quiet)
     ∙ none_changed script.decls (facts script (shown_machine script n))

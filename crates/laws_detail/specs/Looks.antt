@@ -10,11 +10,11 @@ use Rattle.rules_machine.specs.DueItems.{instant}
 use Rattle.rules_machine.specs.State.{Machine}
 use Rattle.rules_machine.specs.Ticks.{prepares, runs}
 use Rattle.rules_machine.specs.Turns.{Turn, turn_of}
-use Rattle.rules_facts.specs.Detail.{changed_at, detail, events_at, timed_line}
+use Rattle.rules_facts.specs.Detail.{facts_changed_at, detail, events_at, timed_line}
 
 -- the facts that change at an instant, as lines of it
 abbrev pub facts_told : Script → ℕ → List ℕ
-facts_told script n = flat_map (timed_line script.decls n) (changed_at script n)
+facts_told script n = flat_map (timed_line script.decls n) (facts_changed_at script n)
 
 -- and those of so many instants
 abbrev pub facts_told_from : Script → ℕ → ℕ → List ℕ

@@ -17,7 +17,7 @@ use Rattle.rules_machine.specs.Threads.{thread_at}
 use Rattle.rules_machine.specs.Ticks.{capacity_in, slice_is_used}
 use Rattle.rules_machine.specs.Turns.{Turn, turn_of}
 use Rattle.rules_machine.specs.Units.{in_unit}
-use Rattle.rules_facts.specs.Detail.{changed_at, fact_lines_at}
+use Rattle.rules_facts.specs.Detail.{facts_changed_at, fact_lines_at}
 use Rattle.rules_facts.specs.Facts.{facts}
 use Rattle.rules_facts.specs.Shown.{shown_machine}
 use Rattle.rules_leaps.specs.Leap.{leap, leap_length}
@@ -37,7 +37,7 @@ pub record FactsRest (script : Script) (most n : ℕ) : Type 0 where
   -- within it the facts are those of the instant behind its start
   pub same : (i : ℕ) → 1 ≤ i → i < leap_at script most n → facts script (shown_machine script (n + i)) ≡ facts script (shown_machine script (n + 1))
   -- so that behind that instant none changes
-  pub still : (i : ℕ) → 1 < i → i < leap_at script most n → changed_at script (n + i) ≡ []
+  pub still : (i : ℕ) → 1 < i → i < leap_at script most n → facts_changed_at script (n + i) ≡ []
   -- and what is told of its instants is told of the first two
   pub told : (end : ℕ) → 2 ≤ leap_at script most n
       → flat_map (fact_lines_at script end) (range_with_len n (leap_at script most n)) ≡ fact_lines_at script end n ++ fact_lines_at script end (n + 1)
@@ -56,7 +56,7 @@ StaysAt bodies script m = facts script (shown_of bodies (ticks bodies 1 m).machi
 
 -- Of a run: where the tick from an instant begins plainly, and the next instant is no eventful one, no fact changes there.
 abbrev pub NoneChangesAfter : Script → ℕ → Type 0
-NoneChangesAfter script n = BeginsPlainly (handled_at script n).machine → is_eventful (bodies_of script) (machine script n) 1 ≡ false → changed_at script (n + 1) ≡ []
+NoneChangesAfter script n = BeginsPlainly (handled_at script n).machine → is_eventful (bodies_of script) (machine script n) 1 ≡ false → facts_changed_at script (n + 1) ≡ []
 
 -- ---- ticks that only take time
 
@@ -83,4 +83,4 @@ StaysBehind bodies script k m = let left = (leap bodies k (turn_of m)).machine i
 -- them, no fact changes there.
 abbrev pub NoneChangesBehind : Script → ℕ → ℕ → Type 0
 NoneChangesBehind script most n = let ready = (handled_at script n).machine in let behind = n + leap_at script most n in
-    BeginsPlainly ready → HeadOnlyTakesTime (bodies_of script) (leap_at script most n) ready → next_item (machine script behind) ≡ None → changed_at script behind ≡ []
+    BeginsPlainly ready → HeadOnlyTakesTime (bodies_of script) (leap_at script most n) ready → next_item (machine script behind) ≡ None → facts_changed_at script behind ≡ []

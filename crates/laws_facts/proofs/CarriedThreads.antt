@@ -9,7 +9,7 @@ use Rattle.rules_machine.specs.Threads.{is_live, is_main, no_thread, thread_at}
 use Rattle.rules_facts.specs.Fact.{Priorities, blocked_thread, cancelability, inner_frames, masked, pushed_cleanups, ready_thread, replenishments}
 use Rattle.rules_facts.specs.Numbers.{frame_numbers, numbers_of, thread_numbers_told}
 use Rattle.rules_facts.specs.Fact.{Number}
-use Rattle.rules_facts.specs.Threads.{block_of, cancelability_fact, cancelability_of, cleanups_fact, frames_fact, inner_bodies, living, mask_fact, pending_fact, planned, priorities_of, status_fact, thread_fact}
+use Rattle.rules_facts.specs.Threads.{blocking_of, cancelability_fact, cancelability_of, cleanups_fact, frames_fact, inner_bodies, living, mask_fact, pending_fact, planned, priorities_of, status_fact, thread_fact}
 use Rattle.laws_places.specs.Carried.{frame_carried}
 use Rattle.laws_places.proofs.CarriedReads.{C, M, exec_carries, status_carries, thread_carries}
 use Rattle.std.specs.Prelude.{◌++◌}
@@ -27,7 +27,7 @@ module _ {P Q : Type 0} (carry : BodyOf → P → Q) where
   status_fact_carries : (m : Machine P) (t : ℕ) (status : Status) → status_fact (M carry m) t status ≡ status_fact m t status
   status_fact_carries m t (dormant at) = refl
   status_fact_carries m t runnable = ap (ready_thread t) (priorities_carry m t)
-  status_fact_carries m t (blocked w) = ap (λ (p : Priorities). blocked_thread t p (block_of w)) (priorities_carry m t)
+  status_fact_carries m t (blocked w) = ap (λ (p : Priorities). blocked_thread t p (blocking_of w)) (priorities_carry m t)
   status_fact_carries m t ended = refl
 
   pub thread_fact_carries : (m : Machine P) (t : ℕ) → thread_fact (M carry m) t ≡ thread_fact m t

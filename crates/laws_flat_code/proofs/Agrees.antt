@@ -10,13 +10,13 @@ use Rattle.rules_bodies.specs.Next.{Due, Ended, Outcome, Place, from_place, or_f
 use Rattle.rules_bodies.specs.Flat as flat_code
 use Rattle.rules_bodies.specs.Flat.{flat, op_number}
 use Rattle.rules_bodies.specs.Fetch.{fetched, found_in, ops_of}
-use Rattle.rules_bodies.specs.Stands.{counts_at, op_at, step_at}
+use Rattle.rules_bodies.specs.Stands.{step_at}
 use Rattle.rules_bodies.proofs.Lands.{landed}
 use Rattle.rules_bodies.proofs.Places.{drop-flat, ops_from, places_land}
 use Rattle.rules_bodies.proofs.Relative.{place_same}
 use Rattle.rules_machine.specs.declared.frame.BodyOf.{BodyOf}
 use Rattle.rules_machine.specs.Bodies.{NextUnit, Seen}
-use Rattle.rules_machine.specs.Machine.{block_of, bodies_of, next_in}
+use Rattle.rules_machine.specs.Machine.{body_tree, bodies_of, next_in}
 use Rattle.laws_places.specs.Carried.{Agree}
 use Rattle.laws_places.proofs.CarriedTrace.{runs_carry, trace_over}
 use Rattle.laws_places.proofs.CarriedBusy.{busy_over}
@@ -62,8 +62,8 @@ next_same code n body place seen is =
     ap next_unit lands ∙ outcome_same (from_place seen.result seen.value place body seen.register) n body place seen
 
 module _ (script : Script) where
-  same : (b : BodyOf) (place : Place) (seen : Seen) → (flat_bodies (code_of script)).next b (carry script b place) seen ≡ unit_at (number_of (code_of script) b) (block_of script b) ((bodies_of script).next b place seen)
-  same b place seen = next_same (code_of script) (number_of (code_of script) b) (block_of script b) place seen (body_ops script b)
+  same : (b : BodyOf) (place : Place) (seen : Seen) → (flat_bodies (code_of script)).next b (carry script b place) seen ≡ unit_at (number_of (code_of script) b) (body_tree script b) ((bodies_of script).next b place seen)
+  same b place seen = next_same (code_of script) (number_of (code_of script) b) (body_tree script b) place seen (body_ops script b)
 
   pub flat_agrees : Agree (carry script) (bodies_of script) (flat_bodies (code_of script))
   flat_agrees = record {

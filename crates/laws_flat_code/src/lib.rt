@@ -2,7 +2,8 @@
 //! proofs.
 //!
 //! Proved: `flat_code_has_the_trace`: the text of a whole run over the script's flat code is the script's trace;
-//! `flat_code_has_the_run`: its running threads and its busy ticks are those of the script's machine.
+//! `flat_code_has_the_run`: its machine after each tick but for the places, its events, and how many of its instants are eventful are
+//! the script's.
 #![tactic(auto)]
 
 ghost use Rattle.laws_flat_code.specs.Traces.{FlatBusy, FlatRuns, FlatTraces};

@@ -213,9 +213,6 @@ module _ (o : Objects) (handlers : ℕ) (code : flat.NumberedBodies (List Op)) (
   caught_by action.Ignore known = tt
   caught_by (action.Handler h) known = known
 
-  registered_so : (q : Queue) → NotifiesKnown of_calls q → (r : Registration) → q.registration ≡ Some r → r.signal < 32
-  registered_so q known r e = known r e
-
   pub held_throughout : (n most : ℕ) (m : Machine Cursor) → Holds of_calls HeldNow (turn_of m) → Held o handlers (after_items (flat_bodies code) m n most)
   held_throughout n most start h =
       let m = after_items (flat_bodies code) start n most in

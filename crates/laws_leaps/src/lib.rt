@@ -16,15 +16,15 @@ ghost use Rattle.rules_machine.specs.Machine.{bodies_of, events, machine};
 ghost use Rattle.rules_machine.specs.Promises.{busy_between};
 ghost use Rattle.rules_machine.specs.WellFormed.{IsWellFormed};
 ghost use Rattle.rules_leaps.specs.Leap.{AreLeaps, IsLeap, in_leaps, leap_length};
-ghost use Rattle.rules_leaps.specs.Quiet.{AreCharges, IsHandled, IsQuiet, IsQuietBetween, at_once, handled_at, one_charge, told_with_dispatch};
+ghost use Rattle.rules_leaps.specs.Quiet.{AreCharges, IsHandled, IsQuiet, IsQuietBetween, ticks_at_once, handled_at, one_charge, told_with_dispatch};
 
 /// Quiet ticks. Of any machine whose items are handled: where none of the next instants is eventful, so many ticks are what the head
 /// runs, charged at once, and they tell of the dispatch alone where that is a change; with the first part of one more tick the charge
 /// is one longer. In the run of a script so it is between any two instants, from the first of them with its items handled.
 pub fn quiet_ticks_are_charges()
     ensures any { (bodies : Bodies Place) → (m : Machine Place) → IsHandled m → (k : ℕ) → IsQuiet bodies k m → AreCharges bodies k m }
-    ensures charged { (script : Script) → IsWellFormed script → (a k : ℕ) → IsQuietBetween script a (a + k) → (j : ℕ) → 1 ≤ j → j < k → machine script (a + j) ≡ at_once (bodies_of script) j (handled_at script a).machine }
-    ensures last { (script : Script) → IsWellFormed script → (a k : ℕ) → IsQuietBetween script a (a + k + 1) → 1 ≤ k → one_charge (bodies_of script) (machine script (a + k)) ≡ at_once (bodies_of script) (k + 1) (handled_at script a).machine }
+    ensures charged { (script : Script) → IsWellFormed script → (a k : ℕ) → IsQuietBetween script a (a + k) → (j : ℕ) → 1 ≤ j → j < k → machine script (a + j) ≡ ticks_at_once (bodies_of script) j (handled_at script a).machine }
+    ensures last { (script : Script) → IsWellFormed script → (a k : ℕ) → IsQuietBetween script a (a + k + 1) → 1 ≤ k → one_charge (bodies_of script) (machine script (a + k)) ≡ ticks_at_once (bodies_of script) (k + 1) (handled_at script a).machine }
     ensures told { (script : Script) → IsWellFormed script → (a k : ℕ) → IsQuietBetween script a (a + k) → (j : ℕ) → 1 ≤ j → j < k → events script (a + j) ≡ events script a ++ told_with_dispatch (handled_at script a).machine.killed (handled_at script a) }
 {}
 

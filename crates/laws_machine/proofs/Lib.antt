@@ -15,4 +15,3 @@ pub mod Good
 pub mod Premises
 pub mod Agenda
 pub mod Scripts
-pub mod Times

@@ -6,8 +6,6 @@ use Rattle.rules_machine.specs.Runs.{opening}
 use Rattle.rules_machine.specs.Throughout.{HoldsThroughout}
 use Rattle.rules_machine.specs.WellFormed.{IsWellFormed}
 use Rattle.laws_machine.specs.Rest.{RunsAreLatest, ServersRest}
-use Rattle.laws_machine.specs.Times.{TimesAreRight}
-use Rattle.laws_machine.proofs.Times.{times_throughout}
 use Rattle.laws_machine.proofs.Servers.Latest.{latest_throughout}
 use Rattle.laws_machine.proofs.Servers.Rest.{rest_throughout}
 use Rattle.rules_moves.proofs.Runs.Units.{bodies_fit}
@@ -21,9 +19,6 @@ module _ (script : Script) (fits : IsWellFormed script) where
 
   pub keeps_budgets : RunKeepsBudgets script
   keeps_budgets = record { each = run_budgets (bodies_of script) (bodies_fit script fits.priorities) script fits }
-
-  pub runs_in_time : HoldsThroughout (bodies_of script) (opening script) TimesAreRight
-  runs_in_time = times_throughout (bodies_of script) (bodies_fit script fits.priorities) script fits
 
   pub rests : HoldsThroughout (bodies_of script) (opening script) ServersRest
   rests = rest_throughout (bodies_of script) (bodies_fit script fits.priorities) script fits

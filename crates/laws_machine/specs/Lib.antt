@@ -1,3 +1,2 @@
 pub mod GuardedBodies
-pub mod Times
 pub mod Rest

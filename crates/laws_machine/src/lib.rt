@@ -4,7 +4,8 @@
 //! Proved: `states_are_good`: every state of the run of every well formed script is good, also between the items of an instant.
 //! `budgets_are_kept`: in each of them each live sporadic or strict thread keeps the law of the budget. `ticks_have_two_parts`: a tick is
 //! the items of its instant, and then what its dispatch begins. `items_come_one_by_one`, `items_are_of_the_agenda`: the items of
-//! an instant are those that are due, one at a time. `threads_run_in_time`: no thread has run for more ticks than there were.
+//! an instant are those that are due, one at a time. `servers_rest`: where a thread does not run, or not at its
+//! high priority, its server has consumed nothing that is not planned.
 //!
 //! Each function stands for a law, which its clause states. None of them does anything when it is called.
 #![tactic(auto)]
@@ -22,7 +23,6 @@ ghost use Rattle.rules_machine.specs.Runs.{follow, opening, tick_begun, tick_fin
 ghost use Rattle.rules_machine.specs.Turns.{Turn};
 ghost use Rattle.rules_machine.specs.Throughout.{HoldsThroughout, turn_after};
 ghost use Rattle.laws_machine.specs.Rest.{RunsAreLatest, ServersRest};
-ghost use Rattle.laws_machine.specs.Times.{TimesAreRight};
 ghost use Rattle.rules_machine.specs.WellFormed.{IsWellFormed};
 
 /// Every state of the run of every well formed script is good: that after each number of ticks, and each that a due item leaves with
@@ -36,11 +36,9 @@ pub fn budgets_are_kept()
     ensures { (script : Script) → IsWellFormed script → RunKeepsBudgets script }
 {}
 
-/// In each of these states no thread has run longer than the machine, in all, in its interval or at its high priority; and servers rest:
-/// where the thread does not run, or not at its high priority, nothing is consumed that is not planned, and what is consumed can be.
+/// In each of these states servers rest: where the thread does not run, or not at its high priority, nothing is consumed that is not planned, and what is consumed can be.
 /// Only the thread of the last tick has an open run.
-pub fn threads_run_in_time()
-    ensures times { (script : Script) → IsWellFormed script → HoldsThroughout (bodies_of script) (opening script) TimesAreRight }
+pub fn servers_rest()
     ensures rest { (script : Script) → IsWellFormed script → HoldsThroughout (bodies_of script) (opening script) ServersRest }
     ensures latest { (script : Script) → IsWellFormed script → HoldsThroughout (bodies_of script) (opening script) RunsAreLatest }
 {}

@@ -13,7 +13,7 @@ use Rattle.rules_bodies.proofs.Relative.{and_then, from_head, from_inside, from_
 use Rattle.rules_machine.specs.declared.frame.BodyOf.{BodyOf}
 use Rattle.rules_machine.specs.declared.frame.BodyOf.TheVariants as body_of
 use Rattle.rules_machine.specs.Declarations.{ThreadDecl, cleanup_kind, declared_thread, handler_kind, named, threads_of}
-use Rattle.rules_machine.specs.Machine.{block_of, bodies_of}
+use Rattle.rules_machine.specs.Machine.{body_tree, bodies_of}
 use Rattle.rules_flat_code.specs.KnownCalls.{Objects, objects_of}
 use Rattle.laws_numbers.specs.Numbers.{Each, IsRegister, PolicySmall}
 use Rattle.laws_numbers.specs.Scripts.{BlockSmall, BodiesSmall, CallSmall, DeclSmall, IsInRange, StartSmall, UnitSmall}
@@ -146,7 +146,7 @@ module _ (o : Objects) where
   cleanup_block (decl.Named name other ∷ ds) u k = cleanup_block ds u k.1
 
 module _ (script : Script) (known : IsInRange script) where
-  block_small : (body : BodyOf) → BlockSmall (objects_of script) (block_of script body)
+  block_small : (body : BodyOf) → BlockSmall (objects_of script) (body_tree script body)
   block_small (body_of.Thread t) = thread_block (objects_of script) (threads_of script) t (threads_small (objects_of script) script.decls known.decls)
   block_small (body_of.Cleanup u) = cleanup_block (objects_of script) script.decls u known.decls
   block_small (body_of.Handler h) = handler_block (objects_of script) script.decls h known.decls
@@ -154,7 +154,7 @@ module _ (script : Script) (known : IsInRange script) where
   pub bodies_small : BodiesSmall (objects_of script) (bodies_of script)
   bodies_small body place seen s =
       let o = objects_of script in
-      let block = block_of script body in
+      let block = body_tree script body in
       let found : FoundSmall o (or_finish block (Rattle.rules_bodies.specs.Next.from_place seen.result seen.value place block seen.register)) =
       subst (λ (x : Outcome). FoundSmall o (or_finish block x)) (sym (place_same seen.result seen.value place block seen.register))
       (or_small o block (from_place seen.result seen.value place block seen.register) (place_small o seen.result seen.value place block seen.register (block_small body) s)) in

@@ -3,7 +3,7 @@ use Rattle.std.proofs.Common.{Bool, List, None, Option, Some, [], ap, arith, fal
 use Rattle.std.specs.Prelude.{filter, is_some, map, slice_index_or}
 use Rattle.rules_machine.specs.Lists.{changed_at, first_by}
 use Rattle.rules_machine.specs.State.{Machine, Thread, Wait, Waiting}
-use Rattle.rules_machine.specs.Threads.{is_dormant, is_live, no_thread, thread_at, thread_in, waiting_in}
+use Rattle.rules_machine.specs.Threads.{is_live, no_thread, thread_at, thread_in, waiting_in}
 use Rattle.rules_machine.specs.Waiters.{Waiter, best_waiter, waiters}
 use Rattle.rules_machine.specs.DueItems.{has_come, start_in}
 use Rattle.rules_moves.proofs.Waiters.Best as best
@@ -69,11 +69,6 @@ pub starting_within : {P : Type 0} (ths : List (Thread P)) (t now : ℕ) → has
 starting_within [] t now e = absurd (grind arith)
 starting_within (th ∷ ths) zero now e = omega arith
 starting_within (th ∷ ths) (suc t) now e = let rest = starting_within ths t now e in omega arith
-
-pub dormant_within : {P : Type 0} (ths : List (Thread P)) (t : ℕ) → is_dormant (thread_in ths t).status ≡ true → t < length ths
-dormant_within [] t e = absurd (grind arith)
-dormant_within (th ∷ ths) zero e = omega arith
-dormant_within (th ∷ ths) (suc t) e = let rest = dormant_within ths t e in omega arith
 
 pub served_within : {P : Type 0} {S : Type 0} (ths : List (Thread P)) (t : ℕ) (server : S) (of : Thread P → Option S) → of no_thread ≡ None → of (thread_in ths t) ≡ Some server → t < length ths
 served_within [] t server of none e = absurd (cc)

@@ -16,7 +16,7 @@ use Rattle.rules_machine.specs.Runs.{opening}
 use Rattle.rules_machine.specs.Throughout.{after_items}
 use Rattle.rules_machine.specs.WellFormed.{IsWellFormed}
 use Rattle.rules_flat_code.specs.KnownCalls.{objects_of}
-use Rattle.laws_machine.proofs.Scripts.{runs_in_time}
+use Rattle.laws_threads.proofs.Within.{threads_are_within}
 use Rattle.laws_accepted.proofs.Reading.{accepted_is_well_formed}
 use Rattle.script_lex.specs.Lines.{lines_of}
 use Rattle.tool_check.specs.Lines.{reading}
@@ -99,7 +99,7 @@ module _ (script : Script) (fits : IsWellFormed script) (ranges : IsInRange scri
   spelled n low =
       let small = numbers_small script fits ranges n low in
       let early : (machine script n).now ≤ 10 ^ 18 = (let e = small.early in omega arith) in
-      let times = (runs_in_time script fits).each n 0 in
+      let times = (threads_are_within script).over_trees.each n 0 in
       record {
         events = all_spelled (names_of script) (objects_of script).threads has_name (events script n) (events_small script fits ranges n low);
         early = number_small (machine script n).now early;

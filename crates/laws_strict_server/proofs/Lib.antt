@@ -3,4 +3,3 @@ pub mod Sums
 pub mod Parts
 pub mod Window
 pub mod Order
-pub mod Lives

@@ -11,8 +11,8 @@ use Rattle.words_script.specs.declared.decl.Script.{Script}
 use Rattle.rules_bodies.specs.Fetch.{ops_of}
 use Rattle.rules_machine.specs.declared.frame.BodyOf.TheVariants as body_of
 use Rattle.rules_machine.specs.Declarations.{cleanup_kind, handler_kind, named}
-use Rattle.rules_machine.specs.Machine.{block_of}
-use Rattle.rules_machine.specs.WellFormed.{DeclsGuarded, StepsPlain, depth, is_guarding}
+use Rattle.rules_machine.specs.Machine.{body_tree}
+use Rattle.rules_machine.specs.WellFormed.{DeclsGuarded, StepsPlain, guard_depth, is_guarding}
 use Rattle.rules_flat_code.specs.EachCall.{EachCall, EachMade}
 use Rattle.rules_flat_code.specs.FlatBodies.{code_of, number_of}
 use Rattle.rules_flat_code.proofs.Numbered.{body_ops}
@@ -21,7 +21,7 @@ use Rattle.laws_threads.proofs.MadeCalls.{flat_made}
 abbrev pub IsPlain : Call → Type 0
 IsPlain c = is_guarding c ≡ false
 
-no_guards : (b : Block) → StepsPlain b → depth b ≤ 0 → EachCall IsPlain b
+no_guards : (b : Block) → StepsPlain b → guard_depth b ≤ 0 → EachCall IsPlain b
 no_guards Nothing plain low = tt
 no_guards (Running n rest) plain low = no_guards rest plain low
 no_guards (Making c rest) plain low = (plain.0, no_guards rest plain.1 low)
@@ -60,7 +60,7 @@ handlers_plain (decl.Action signal handler ∷ decls) n h = handlers_plain decls
 
 module _ (script : Script) (guards : DeclsGuarded script.decls) where
   pub cleanup_plain : (u : ℕ) → EachMade IsPlain (ops_of (code_of script) (number_of (code_of script) (body_of.Cleanup u)))
-  cleanup_plain u = rw (body_ops script (body_of.Cleanup u)) (flat_made IsPlain 0 (block_of script (body_of.Cleanup u)) (cleanups_plain script.decls u guards))
+  cleanup_plain u = rw (body_ops script (body_of.Cleanup u)) (flat_made IsPlain 0 (body_tree script (body_of.Cleanup u)) (cleanups_plain script.decls u guards))
 
   pub handler_plain : (h : ℕ) → EachMade IsPlain (ops_of (code_of script) (number_of (code_of script) (body_of.Handler h)))
-  handler_plain h = rw (body_ops script (body_of.Handler h)) (flat_made IsPlain 0 (block_of script (body_of.Handler h)) (handlers_plain script.decls h guards))
+  handler_plain h = rw (body_ops script (body_of.Handler h)) (flat_made IsPlain 0 (body_tree script (body_of.Handler h)) (handlers_plain script.decls h guards))

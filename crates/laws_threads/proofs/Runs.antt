@@ -1,11 +1,11 @@
 -- What threads keep, ticks and runs keep.
-use Rattle.std.proofs.Common.{Bool, None, Option, Some, arith, false, length, refl, subst, suc, sym, true, zero, ℕ, ◌+◌, ◌∙◌, ◌≡◌, List, [], ◌∷◌}
+use Rattle.std.proofs.Common.{Bool, None, Option, Some, arith, false, refl, subst, suc, sym, true, zero, ℕ, ◌+◌, ◌∙◌, ◌≡◌, List, [], ◌∷◌}
 use Rattle.rules_bodies.specs.declared.unit.Unit as units
 use Rattle.words_trace.specs.declared.event.Event.{Event}
 use Rattle.words_trace.specs.declared.event.Event.TheVariants as event
 use Rattle.rules_machine.specs.Lists.{is}
 use Rattle.rules_machine.specs.State.{Machine, Thread}
-use Rattle.rules_machine.specs.Threads.{action_of, can_run, no_thread, thread_at, top_left, thread_numbers}
+use Rattle.rules_machine.specs.Threads.{can_run, no_thread, thread_at, top_left, thread_numbers}
 use Rattle.rules_machine.specs.Turns.{Turn, becomes, changes, tells, turn_of}
 use Rattle.rules_machine.specs.Servers.{has_high, plans, closes, closes_of, has_run, may_open, opens, opens_for, opens_if, plans_if}
 use Rattle.rules_machine.specs.Dispatch.{dispatch_event, dispatches, head, is_same, tells_unless}
@@ -14,9 +14,7 @@ use Rattle.rules_machine.specs.Units.{in_unit}
 use Rattle.rules_machine.specs.Ticks.{TickEnd, completes_at, ends_tick, exhausting, later, nothing, planning, runs, runs_head, slicing, tick, tick_charged, tick_end, tick_ends, unit_ticked, unless_killed, without_slice, prepares}
 use Rattle.rules_machine.specs.Runs.{ticks}
 use Rattle.rules_machine.proofs.Reading.{changed-length}
-use Rattle.rules_machine.specs.Throughout.{HoldsThroughout}
-use Rattle.laws_threads.specs.EachThread.{ActionKnown, Closed, EachThread, Given, Lasts, Passes, UnitKnown}
-use Rattle.laws_threads.proofs.Objects.{ObjectsHold}
+use Rattle.laws_threads.specs.EachThread.{Closed, Given, Lasts, Passes, UnitKnown}
 use Rattle.laws_threads.proofs.Changes.{Holds, at_self, at_two, changes_hold}
 use Rattle.laws_threads.proofs.Waking.{moves_if_hold, moves_unless_boosted_hold, plans_hold, activates_server_hold}
 use Rattle.laws_threads.proofs.Table.{unit_effect_hold}
@@ -143,11 +141,3 @@ module _ {P : Type 0} (given : Given P) (Q : ℕ → ℕ → Thread P → Type 0
   -- after some ticks, and some items of the next with their sweeps
   pub holds_throughout : (n most : ℕ) (start : Machine P) → Lasting (turn_of start) → Lasting (items_done given.bodies most (turn_of (ticks given.bodies n start).machine))
   holds_throughout n most start h = items_done_hold given Q lasts.closed most (turn_of (ticks given.bodies n start).machine) (ticks_hold n start h)
-
--- What lasts holds of each thread at each instant of a run, and between its items, where it holds of each thread at first and the actions
--- of the signals are known.
-pub each_throughout : {P : Type 0} (given : Given P) (Q : ℕ → ℕ → Thread P → Type 0) → Lasts given Q → (start : Machine P) → length start.threads ≡ given.count →
-    ((signal : ℕ) → ActionKnown given (action_of start signal)) → ObjectsHold given start.timers start.queues start.pending → EachThread Q start → HoldsThroughout given.bodies start (EachThread Q)
-each_throughout given Q lasts start counted handled objects each = record {
-  each = λ n most. (holds_throughout given Q lasts n most start (record { each = each; counted = counted; handled = handled; objects = objects })).each;
-}

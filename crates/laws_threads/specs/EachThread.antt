@@ -19,7 +19,7 @@ use Rattle.rules_machine.specs.declared.thread.CondEnd.TheVariants as cond_end
 use Rattle.rules_machine.specs.Lists.{is}
 use Rattle.rules_machine.specs.Bodies.{Bodies}
 use Rattle.rules_machine.specs.Clock.{thread_moved}
-use Rattle.rules_machine.specs.State.{Joiner, Machine, Message, SignalRecord, Thread, Wait, Waiting, for_condition, for_end, for_message, for_mutex, for_mutex_again, for_room, for_semaphore, for_signal, for_time, has_joined, nobody, waits_to_join}
+use Rattle.rules_machine.specs.State.{Joiner, Message, SignalRecord, Thread, Wait, Waiting, for_condition, for_end, for_message, for_mutex, for_mutex_again, for_room, for_semaphore, for_signal, for_time, has_joined, nobody, waits_to_join}
 use Rattle.rules_machine.specs.Threads.{catches_signal, is_main, thread_in, top_kind, waiting_in}
 use Rattle.rules_machine.specs.Turns.{answered}
 use Rattle.rules_machine.specs.Servers.{with_server}
@@ -34,10 +34,6 @@ use Rattle.rules_machine.specs.Ticks.{tick_charged, without_slice}
 -- A law of a thread speaks of the instant, of the thread's number and of the thread.
 abbrev pub EachIn : {P : Type 0} → (ℕ → ℕ → Thread P → Type 0) → ℕ → List (Thread P) → Type 0
 EachIn Q now threads = (u : ℕ) → u < length threads → Q now u (thread_in threads u)
-
--- each thread of a machine keeps it
-abbrev pub EachThread : {P : Type 0} → (ℕ → ℕ → Thread P → Type 0) → Machine P → Type 0
-EachThread Q m = EachIn Q m.now m.threads
 
 -- ---- what is known of a machine
 

@@ -2,7 +2,7 @@
 //! whatever the others do.
 //!
 //! Proved: `head_runs`: each tick counts for the head of the highest list that is not empty, and for no other thread.
-//! `threads_are_within`: no thread, slice or server has counted more ticks than there were. `frames_are_placed`: over the flat
+//! `threads_are_within`: no thread, round robin interval or server has counted more ticks than there were. `frames_are_placed`: over the flat
 //! code of a script whose bodies can be flattened and whose calls name what it declares, each frame stands at a place of the
 //! code, in order and at most three to a thread.
 //!

@@ -10,7 +10,7 @@ use Rattle.rules_bodies.specs.Next.{Place}
 use Rattle.rules_machine.specs.declared.frame.BodyOf.{BodyOf}
 use Rattle.rules_machine.specs.declared.frame.BodyOf.TheVariants as body_of
 use Rattle.rules_machine.specs.Declarations.{ThreadDecl, cleanup_kind, declared_thread, handler_kind, named, threads_of}
-use Rattle.rules_machine.specs.Machine.{block_of, bodies_of}
+use Rattle.rules_machine.specs.Machine.{body_tree, bodies_of}
 use Rattle.rules_machine.specs.Runs.{opening, thread_opened}
 use Rattle.rules_machine.specs.Threads.{thread_in}
 use Rattle.laws_window.specs.Before.{AreBodiesPlain, AreThreadsPlain, is_strict_policy}
@@ -58,13 +58,13 @@ thread_policy (d ∷ ds) zero each = each.0.0
 thread_policy (d ∷ ds) (suc t) each = thread_policy ds t each.1
 
 module _ (script : Script) (plain : Each DeclPlain script.decls) where
-  block_plain : (body : BodyOf) → BlockPlain (block_of script body)
+  block_plain : (body : BodyOf) → BlockPlain (body_tree script body)
   block_plain (body_of.Thread t) = thread_block (threads_of script) t (threads_plain script.decls plain)
   block_plain (body_of.Cleanup u) = cleanup_block script.decls u plain
   block_plain (body_of.Handler h) = handler_block script.decls h plain
 
   pub bodies_plain : AreBodiesPlain (bodies_of script)
-  bodies_plain body place seen = next_plain (block_of script body) place seen (block_plain body)
+  bodies_plain body place seen = next_plain (body_tree script body) place seen (block_plain body)
 
   pub opening_plain : AreThreadsPlain (opening {P = Place} script)
   opening_plain u = thread_policy (threads_of script) u (threads_plain script.decls plain)

@@ -1,6 +1,5 @@
 //! A set of ranks, a bit for each.
-ghost use Rattle.std.specs.Prelude.{◌≡◌, ◌≢◌, ℕ, ◌<◌, if◌then◌else◌, Bool, false, true, MatchOption};
-ghost use Rattle.parts_arrivals.specs.Held.{is_marked};
+ghost use Rattle.std.specs.Prelude.{◌≡◌, ◌≢◌, ◌<◌, if◌then◌else◌, MatchOption};
 ghost use Rattle.parts_arrivals.specs.Marks.{IsHighest, NoneIsMarked, ChangesMark};
 
 /// Marks the rank, or takes the mark from it.

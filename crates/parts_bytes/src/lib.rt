@@ -7,4 +7,4 @@ mod digits;
 mod place;
 
 pub use digits::{place_digits, place_eight, place_numeral, place_pair};
-pub use place::{place_byte, place_bytes, place_front, place_within, place_word};
+pub use place::{place_byte, place_bytes, place_within, place_word};

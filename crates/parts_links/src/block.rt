@@ -1,5 +1,5 @@
 //! One block of cells. Each cell points to the one before and the one after it.
-ghost use Rattle.std.specs.Prelude.{◌≡◌, ◌+◌, ◌^◌, ◌<◌, ◌≤◌, length, get_or, slice_set, IfOk};
+ghost use Rattle.std.specs.Prelude.{◌≡◌, ◌+◌, ◌^◌, ◌<◌, ◌≤◌, length, get_or, IfOk};
 ghost use Rattle.parts_links.specs.Rings.{Rings, alone, joined, with_list};
 ghost use Rattle.parts_links.specs.Block.{IsOpened};
 

@@ -4,8 +4,8 @@
 //! after `open` takes memory.
 //!
 //! Contracts see a list of lists of node numbers, in which each node stands at most once, and name no cell. The end of a list is a cell
-//! of the same block, so that no call asks whether a neighbour is there, and each call takes the same few steps however long the lists
-//! are. The block is taken by `open` and given back once, as the lists are dropped; no call after `open` takes memory.
+//! of the same block, so that no call asks whether a neighbour is there, and each call but `nth`, which walks to its place, takes the
+//! same few steps however long the lists are. The block is taken by `open` and given back once, as the lists are dropped; no call after `open` takes memory.
 #![tactic(auto)]
 
 mod block;

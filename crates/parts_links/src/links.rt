@@ -1,5 +1,5 @@
 //! Lists that share their nodes: each node stands at most once in all of them.
-ghost use Rattle.std.specs.Prelude.{IfSome, None, ◌≡◌, ◌++◌, [], ◌∷◌, ◌<◌, ◌≤◌, false, true, length, map, replicate, slice_get, slice_set, IfOk, MatchOption, get_or, ◌+◌, ◌⊎◌};
+ghost use Rattle.std.specs.Prelude.{IfSome, None, ◌≡◌, ◌++◌, [], ◌∷◌, ◌<◌, ◌≤◌, false, true, length, map, replicate, slice_get, slice_set, IfOk, MatchOption, ◌+◌, ◌⊎◌};
 ghost use Rattle.std.specs.List.{last_or};
 ghost use Rattle.parts_links.specs.Links.{Lists, list_at, stands_in, on_a_list, without, placed, placed_before, follower_on, OthersStay, StandOnce};
 
@@ -135,7 +135,7 @@ impl Links {
         Some(node)
     }
 
-    /// A node stands at most once in all the lists.
+    /// Costs nothing when it runs: a node stands at most once in all the lists.
     pub fn stand_once(&self)
         ensures { StandOnce self.now }
     {

@@ -9,7 +9,8 @@ use Rattle.rules_machine.specs.Priorities.{Claim}
 use Rattle.parts_waiters.specs.declared.Place.{Place}
 use Rattle.parts_waiters.specs.Places.{place_in, repriced}
 use Rattle.parts_owners.specs.declared.walk.Moved.{Moved}
-use Rattle.parts_owners.specs.Chains.{ArePriorities, ChainsEnd, IsPriority, OwnersAreThreads, Solves, SolvesBut, above_in, asked_in, awaited_in, links_of, next_in, prio_in}
+use Rattle.parts_owners.specs.Chains.{ArePriorities, ChainsEnd, OwnersAreThreads, Solves, SolvesBut, above_in, asked_in, awaited_in, links_of, next_in, prio_in}
+use Rattle.rules_machine.specs.WellFormed.{IsPriority}
 use Rattle.parts_owners.specs.Moves.{MayWalk, SamePlaces, StandsAt, TellsMoved, WaitersStand, mutex_placed, unpriced}
 use Rattle.parts_owners.proofs.OneSolution.{asked_same, within_chain}
 

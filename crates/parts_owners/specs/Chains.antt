@@ -6,6 +6,7 @@ use Rattle.words_script.specs.declared.policy.Protocol.TheVariants as protocol
 use Rattle.rules_machine.specs.Mutexes.{freed, taken_by}
 use Rattle.rules_machine.specs.State.{Mutex}
 use Rattle.rules_machine.specs.Threads.{mutex_in, no_mutex}
+use Rattle.rules_machine.specs.WellFormed.{IsPriority}
 use Rattle.rules_machine.specs.Priorities.{Claim, assigned_in, base_in, exec_in, inherit_waiters_in, is_inherit_mutex_of, owner_ceiling}
 
 abbrev pub no_claim : Claim
@@ -14,11 +15,6 @@ no_claim = record { assigned = 0; awaited = None }
 -- the priority of a thread in a list of priorities
 abbrev pub prio_in : List ℕ → ℕ → ℕ
 prio_in prios t = slice_index_or prios t 0
-
--- what every priority is
-pub record IsPriority (p : ℕ) : Type 0 where
-  pub positive : 1 ≤ p
-  pub small : p ≤ 255
 
 pub record ArePriorities (prios : List ℕ) : Type 0 where
   pub each : (t : ℕ) → t < length prios → IsPriority (prio_in prios t)

@@ -1,4 +1,4 @@
-//! Whether a thread owns a mutex that can raise its priority.
+//! The mutexes that a thread owns: how many there are, and whether one can raise its priority.
 ghost use Rattle.std.specs.Prelude.{◌≡◌, filter, length};
 ghost use Rattle.std.specs.List.{list_any};
 ghost use Rattle.rules_machine.specs.Lists.{is};

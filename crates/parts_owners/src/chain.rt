@@ -7,7 +7,8 @@ ghost use Rattle.rules_machine.specs.Mutexes.{freed, is_boosting, taken_by};
 ghost use Rattle.rules_machine.specs.State.{Mutex};
 ghost use Rattle.parts_waiters.specs.declared.WaitObj.TheVariants as wait_obj;
 ghost use Rattle.parts_waiters.specs.Places.{best_of, place_in};
-ghost use Rattle.parts_owners.specs.Chains.{IsPriority, Links, OwnersAreThreads, SameExec, assigned_at, counted, assigned_to, awaited_in, closes_cycle_in, exec_of, freed_if, is_plainly_free, mutex_at, taken_if, waiting_for, with_claim, with_mutex};
+ghost use Rattle.parts_owners.specs.Chains.{Links, OwnersAreThreads, SameExec, assigned_at, counted, assigned_to, awaited_in, closes_cycle_in, exec_of, freed_if, is_plainly_free, mutex_at, taken_if, waiting_for, with_claim, with_mutex};
+ghost use Rattle.rules_machine.specs.WellFormed.{IsPriority};
 ghost use Rattle.parts_owners.specs.Fresh.{fresh};
 ghost use Rattle.parts_owners.specs.Moves.{Changes, IsPlaced, MayPass, Passes, entered, left};
 
@@ -65,13 +66,14 @@ impl Chain {
         self.exec[t.get() as usize]
     }
 
-    /// The mutex as it stands.
+    /// How many mutexes there are.
     pub fn mutex_count(&self) -> usize
         ensures { result ≡ length self.now.mutexes }
     {
         self.mutexes.len()
     }
 
+    /// The mutex as it stands.
     pub fn mutex(&self, k: ObjId) -> &MutexState
         requires { k < length self.now.mutexes }
         ensures { result.now ≡ mutex_at self.now k }
@@ -240,6 +242,7 @@ impl Chain {
     }
 
     /// Whether the mutex lends nothing and has no ceiling, its owner has its assigned priority, and the thread waits for it.
+    /// The contract lets it answer no more often.
     #[inline(always)]
     pub fn may_pass(&self, k: ObjId, owner: Tid, t: Tid) -> bool
         requires known { t < length self.now.claims }

@@ -259,8 +259,6 @@ pub(crate) fn pass(
     ensures settled { Settled (links_of claims.new mutexes.new) exec.now }
     ensures passes { Passes k t (links_of claims.old mutexes.old) (links_of claims.new mutexes.new) w.old w.new }
 {
-    let _ = exec;
-    let _ = owner;
     become_owner(mutexes, k, t);
     set_wait(claims, t, None);
     w.leave(t);

@@ -204,9 +204,7 @@ pub(crate) fn next(claims: &[ThreadClaim], mutexes: &[MutexState], t: Tid) -> Op
     requires { t < length claims.now }
     ensures { result ≡ next_in claims.now mutexes.now t }
 {
-    let Some(k) = claims[t.get() as usize].awaited() else {
-        return None;
-    };
+    let k = claims[t.get() as usize].awaited()?;
     let k = k.get() as usize;
     if k < mutexes.len() {
         return mutexes[k].owner();

@@ -63,10 +63,12 @@ fn raised_by_waiters(
     requires waiters { WaitersStand claims.now w.now }
     ensures { result ≡ max start (greatest (map (prio_in exec.now) (waiters_in claims.now k))) }
 {
+    // There are at most 256 mutexes, which no clause says here: one past them is found one by one.
     if k >= 256 {
         return raised_by_all(claims, exec, k, start);
     }
     let Some(mutex) = ObjId::try_new(k as u16) else {
+        // not reached: each number below 256 is one
         return start;
     };
     match w.best(WaitObj::Mutex(mutex)) {

@@ -1,6 +1,5 @@
 //! The walk along the chain of owners where priorities only rise: it looks at no other mutexes than those of the chain.
 ghost use Rattle.std.specs.Prelude.{◌≡◌, ◌<◌, IfSome, Some, length, option_map};
-ghost use Rattle.rules_machine.specs.Threads.{mutex_in};
 ghost use Rattle.parts_owners.specs.Chains.{ArePriorities, Solves, awaited_in, links_of, next_in, prio_in};
 ghost use Rattle.parts_owners.specs.Moves.{MayWalk, SamePlaces, StandsAt, TellsMoved};
 ghost use Rattle.parts_owners.specs.Rises.{RisesThrough};
@@ -25,9 +24,7 @@ fn next_owned(claims: &[ThreadClaim], mutexes: &[MutexState], t: Tid) -> Option<
     ensures awaited { IfSome result (λ o. awaited_in claims.now t ≡ Some o.mutex) }
     ensures owned { IfSome result (λ o. o.mutex < length mutexes.now) }
 {
-    let Some(mutex) = claims[t.get() as usize].awaited() else {
-        return None;
-    };
+    let mutex = claims[t.get() as usize].awaited()?;
     let k = mutex.get() as usize;
     if k < mutexes.len() {
         return match mutexes[k].owner() {

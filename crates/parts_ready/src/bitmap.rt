@@ -1,7 +1,9 @@
 //! A set of small numbers, a bit for each.
-ghost use Rattle.std.specs.Prelude.{◌≡◌, ◌≢◌, ℕ, suc, ◌<◌, ◌≤◌, false, true, slice_index};
+ghost use Rattle.std.specs.Prelude.{◌≡◌, ℕ, suc, ◌<◌, ◌≤◌, false, true, slice_index};
 ghost use Rattle.std.specs.Int.{bit_at};
 ghost use Rattle.parts_ready.specs.Bits.{AreClear, ChangesBit, is_set, NoneIsSet};
+
+use parts_bits::words::{with_bit, without_bit};
 
 /// Which of 256 places are taken.
 #[derive(Drop)]
@@ -84,24 +86,6 @@ impl Bitmap {
             0
         }
     }
-}
-
-// the word after that bit is set
-fn with_bit(word: u64, bit: u32) -> u64
-    requires { bit < 64 }
-    ensures changed { bit_at result bit ≡ 1 }
-    ensures others { (k : ℕ) → k < 64 → k ≢ bit → bit_at result k ≡ bit_at word k }
-{
-    word | (1u64 << bit)
-}
-
-// the word after that bit is cleared
-fn without_bit(word: u64, bit: u32) -> u64
-    requires { bit < 64 }
-    ensures changed { bit_at result bit ≡ 0 }
-    ensures others { (k : ℕ) → k < 64 → k ≢ bit → bit_at result k ≡ bit_at word k }
-{
-    word & !(1u64 << bit)
 }
 
 // the highest bit of the word that is set, 0 where none is

@@ -247,7 +247,8 @@ impl Ready {
         }
     }
 
-    /// How many lists are empty from that of this priority on, the next lower ones behind it, of so many.
+    /// How many lists are empty from that of this priority on, the next lower ones behind it, of so many. The contract lets
+    /// it tell fewer.
     pub fn empty_from(&self, p: Prio, most: u32) -> u32
         requires { most ≤ p }
         ensures few { result ≤ most }

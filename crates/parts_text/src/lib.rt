@@ -13,7 +13,7 @@ pub fn add<const ROOM: usize>(text: &mut ArrayVec<u8, ROOM>, bytes: &[u8])
     requires { length text.old.items + length bytes.now ≤ ROOM }
     ensures { text.new.items ≡ text.old.items ++ bytes.now }
 {
-    let _ = text.try_extend_from_slice(bytes);
+    text.try_extend_from_slice(bytes).unwrap();
 }
 
 /// Adds a number in decimal, of at most 20 bytes, to a text that has room for as many.

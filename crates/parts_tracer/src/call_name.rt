@@ -75,7 +75,7 @@ pub fn call_text(call: CallName) -> &'static [u8]
 
 // Puts the word at a place with room for any, and answers the place behind it.
 #[inline(always)]
-pub(crate) fn place_call_text(call: CallName, buf: &mut [u8], at: usize) -> usize
+pub(crate) fn place_call_text(buf: &mut [u8], at: usize, call: CallName) -> usize
     requires { at + 16 ≤ length buf.old }
     ensures placed { Placed buf.old buf.new at (call_word call) result }
     ensures within { result ≤ at + 16 }

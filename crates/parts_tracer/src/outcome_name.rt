@@ -53,7 +53,7 @@ fn code_entry(code: SigCode) -> (&'static [u8], usize)
 
 /// Puts the word of a result at a place with room for any, and answers the place behind it.
 #[inline(always)]
-pub(crate) fn place_result_text(res: Res, buf: &mut [u8], at: usize) -> usize
+pub(crate) fn place_result_text(buf: &mut [u8], at: usize, res: Res) -> usize
     requires { at + 16 ≤ length buf.old }
     ensures placed { Placed buf.old buf.new at (res_text res) result }
     ensures within { result ≤ at + 16 }
@@ -64,7 +64,7 @@ pub(crate) fn place_result_text(res: Res, buf: &mut [u8], at: usize) -> usize
 
 /// Puts the word of a signal code at a place with room for any, and answers the place behind it.
 #[inline(always)]
-pub(crate) fn place_code_text(code: SigCode, buf: &mut [u8], at: usize) -> usize
+pub(crate) fn place_code_text(buf: &mut [u8], at: usize, code: SigCode) -> usize
     requires { at + 16 ≤ length buf.old }
     ensures placed { Placed buf.old buf.new at (sig_code_text code) result }
     ensures within { result ≤ at + 16 }

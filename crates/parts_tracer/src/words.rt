@@ -1,10 +1,10 @@
 //! The words of events, which stand behind their times, and of reports.
-ghost use Rattle.std.specs.Prelude.{◌≡◌, ◌≤◌, ◌<◌, ◌+◌, ◌++◌, ◌∷◌, [], length, codes, decimal, IfSome, None, Some};
-ghost use Rattle.words_trace.specs.Text.{IsNamed, budget_words, event_words, name_at, report_line, signal_name};
+ghost use Rattle.std.specs.Prelude.{◌≡◌, ◌≤◌, ◌<◌, ◌+◌, ◌++◌, ◌∷◌, [], length, codes, decimal, None, Some};
+ghost use Rattle.words_trace.specs.Text.{IsNamed, budget_words, event_words, name_at, report_line};
 ghost use Rattle.parts_bytes.specs.Placed.{Placed};
 ghost use Rattle.parts_tracer.specs.Placed.{blanks_before, words_behind};
 ghost use Rattle.words_trace.specs.Calls.{call_word};
-ghost use Rattle.words_numbers.specs.Words.{res_text, sig_code_text};
+ghost use Rattle.words_numbers.specs.Words.{res_text, sig_code_text, signal_word};
 
 use crate::Names;
 use crate::call_name::place_call_text;
@@ -44,7 +44,7 @@ fn place_call(text: &mut [u8], at: usize, names: &Names, t: Tid, call: CallName)
 {
     let at = place_of_thread(text, at, b" return ", names, t);
     let at = place_byte(text, at, b' ');
-    place_call_text(call, text, at)
+    place_call_text(text, at, call)
 }
 
 /// Puts the words of an event and the line end.
@@ -108,7 +108,7 @@ pub(crate) fn place_return(
 {
     let at = place_call(text, at, names, t, call);
     let at = place_byte(text, at, b' ');
-    let at = place_result_text(res, text, at);
+    let at = place_result_text(text, at, res);
     let at = place_number(text, at, value);
     place_byte(text, at, b'\n')
 }
@@ -127,13 +127,13 @@ fn place_delivery(
     requires room { at + 236 ≤ length text.old }
     requires named { t < length names.now }
     ensures placed { Placed text.old text.new at
-        (words_behind (codes "deliver" ∷ name_at names.now t ∷ signal_name sig ∷ sig_code_text code ∷ decimal value ∷ [])) result }
+        (words_behind (codes "deliver" ∷ name_at names.now t ∷ signal_word sig ∷ sig_code_text code ∷ decimal value ∷ [])) result }
     ensures within { result ≤ at + 104 }
 {
     let at = place_of_thread(text, at, b" deliver ", names, t);
     let at = place_signal(text, at, sig);
     let at = place_byte(text, at, b' ');
-    let at = place_code_text(code, text, at);
+    let at = place_code_text(text, at, code);
     let at = place_number(text, at, value);
     place_byte(text, at, b'\n')
 }
@@ -214,7 +214,7 @@ fn place_of_thread(text: &mut [u8], at: usize, what: &[u8], names: &Names, t: Ti
 #[inline(never)]
 fn place_killed(text: &mut [u8], at: usize, sig: u8) -> usize
     requires { at + 236 ≤ length text.old }
-    ensures placed { Placed text.old text.new at (words_behind (codes "killed" ∷ signal_name sig ∷ [])) result }
+    ensures placed { Placed text.old text.new at (words_behind (codes "killed" ∷ signal_word sig ∷ [])) result }
     ensures within { result ≤ at + 236 }
 {
     let at = place_word(text, at, b" killed");
@@ -226,7 +226,7 @@ fn place_killed(text: &mut [u8], at: usize, sig: u8) -> usize
 #[inline(always)]
 fn place_signal(text: &mut [u8], at: usize, sig: u8) -> usize
     requires { at + 24 ≤ length text.old }
-    ensures placed { Placed text.old text.new at (32 ∷ signal_name sig) result }
+    ensures placed { Placed text.old text.new at (32 ∷ signal_word sig) result }
     ensures within { result ≤ at + 24 }
 {
     let at = place_word(text, at, b" rt");

@@ -1,5 +1,5 @@
 //! Whether a thread waits for a condition with another mutex, looked for among the waiters of the condition.
-ghost use Rattle.std.specs.Prelude.{◌≡◌, ◌<◌, ℕ, None, length, slice_get, true};
+ghost use Rattle.std.specs.Prelude.{◌≡◌, ◌<◌, ℕ, None, length, true};
 ghost use Rattle.parts_links.specs.Links.{list_at, stands_at};
 ghost use Rattle.parts_waiters.specs.Bound.{AreAlike, AreAsOne, Fits, has_one, others, released_is, waits_with_other};
 ghost use Rattle.parts_waiters.specs.Held.{AreHeld, id_of, number_of};

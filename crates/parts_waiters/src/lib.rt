@@ -233,7 +233,7 @@ impl Waits {
         }
     }
 
-    /// `best` and `best_for_signal` answer by the rules of the machine whose waits these are, over flat code.
+    /// Costs nothing when it runs: `best` and `best_for_signal` answer by the rules of the machine whose waits these are, over flat code.
     pub fn serve_by_the_rules(&self)
         ensures waiters { BestsAreWaiters self.now }
         ensures acceptors { BestsAreAcceptors self.now }

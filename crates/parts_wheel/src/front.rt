@@ -9,7 +9,7 @@ use crate::walks::Next;
 /// What is due first.
 #[derive(Clone, Copy)]
 pub(crate) struct Front {
-    // the least due tick after that of the slots, or the last number where nothing is due later
+    // the least due tick after that of the slots, or `u64::MAX` where nothing is due later
     pub(crate) least: u64,
     // nothing is due before that tick
     pub(crate) early: u64,

@@ -4,10 +4,11 @@
 //! Proved: a finite map from item to due tick: `next` is the least due tick, `first_due` the least item that is due, and
 //! `pop_due` takes it out.
 //!
-//! Contracts see a finite map from item number to due tick, and the last `now` of `first_due` or `pop_due`; `specs/Dues.antt`
-//! states what each call answers. The wheel stands at a tick that is at most that last `now`. An item that is due later stands on
+//! Contracts see a finite map from item number to due tick, and the greatest `now` so far of `first_due` or `pop_due`;
+//! `specs/Dues.antt` states what each call answers. The wheel stands at a tick that is at most that `now`. An item that is due later stands on
 //! the list of its slot, bits tell which slots are taken, and an item whose tick has passed is a bit of a set, so that the least
-//! number is found at once. The least later due tick is kept, so that `next` searches no slot, a tick before which nothing is due,
+//! number is found at once. The least later due tick is kept, so that `next` searches no slot (where an item has passed, it
+//! goes over all due ticks), a tick before which nothing is due,
 //! so that `first_due` is one comparison where nothing is, and the least number of an item that is due then, which `first_due`
 //! answers. No call after `open` takes memory.
 #![tactic(auto)]
@@ -37,6 +38,7 @@ use words_numbers::{ItemId, Tick};
 pub struct Wheel {
     slots: Slots,
     front: Front,
+    // the greatest `now` so far
     last: u64,
 }
 
@@ -218,7 +220,7 @@ impl Wheel {
     }
 
     /// The item with the least number that is due at or before now. None exactly where none is. It stays armed. The instants need not
-    /// rise: one before the last is answered by a search.
+    /// rise: one before the greatest so far is answered by a search.
     #[inline(always)]
     pub fn first_due(&mut self, now: Tick) -> Option<ItemId>
         ensures item { MatchOption result (NoneIsDue now self.old.dues) (λ id. IsFirstDue now self.old.dues id.number) }

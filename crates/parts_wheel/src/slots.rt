@@ -43,6 +43,7 @@ impl Slots {
         ensures { IfOk result (λ s. s ≡ record { dues = replicate ids None; base = 0 }) }
     {
         let dues = filled(alloc, ids as usize, None)?;
+        // 2,048 lists of the lowest level and 256 of each of the seven above it, with a bit each; 1,024 items, with a bit each
         let links = Links::open(alloc, 1024, 3840)?;
         let occupied = Bits::open(alloc, 60)?;
         let passed = Bits::open(alloc, 16)?;

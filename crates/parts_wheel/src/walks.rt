@@ -7,7 +7,7 @@ ghost use Rattle.parts_wheel.specs.Moves.{IsDue};
 use parts_links::Links;
 use words_numbers::Tick;
 
-/// The least due tick of some items, the last number where there are none, and the item of the least number that is due then, where it is
+/// The least due tick of some items, `u64::MAX` where there are none, and the item of the least number that is due then, where it is
 /// known.
 #[derive(Clone, Copy)]
 pub struct Next {

@@ -2,7 +2,8 @@
 use words_numbers::Res;
 use words_script::Call;
 
-/// An operation of the flat code. A body's operations are numbered from 0. Contracts speak of it, and the code keeps it packed (`ops.rt`).
+/// An operation of the flat code. A body's operations are numbered from 0. Contracts speak of it, and the code keeps it packed (`script_code`
+/// `ops.rt`).
 #[derive(Clone, Copy)]
 pub enum Op {
     /// Runs for so many ticks.

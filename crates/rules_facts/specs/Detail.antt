@@ -30,8 +30,8 @@ abbrev pub machine_before : Script → ℕ → Machine Place
 machine_before script zero = opening script
 machine_before script (suc n) = shown_machine script n
 
-abbrev pub changed_at : Script → ℕ → List Fact
-changed_at script n = changed script.decls (facts script (machine_before script n)) (facts script (shown_machine script n))
+abbrev pub facts_changed_at : Script → ℕ → List Fact
+facts_changed_at script n = changed script.decls (facts script (machine_before script n)) (facts script (shown_machine script n))
 
 -- a fact as a line of an instant
 abbrev pub timed_line : List Decl → ℕ → Fact → List ℕ
@@ -39,7 +39,7 @@ timed_line decls n f = line_of_words (decimal n ∷ fact_words decls f)
 
 -- The facts that change at an instant. The last one, at which the run or the process ends, has none.
 abbrev pub fact_lines_at : Script → ℕ → ℕ → List ℕ
-fact_lines_at script end n = if nat_lt n end then flat_map (timed_line script.decls n) (changed_at script n) else []
+fact_lines_at script end n = if nat_lt n end then flat_map (timed_line script.decls n) (facts_changed_at script n) else []
 
 abbrev pub events_at : ℕ → List Entry → List Entry
 events_at n entries = filter (λ (e : Entry). e.time == n) entries

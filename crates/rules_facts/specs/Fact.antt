@@ -16,7 +16,7 @@ pub data Awaited : Type 0 where
   one_signal_of : ℕ → Awaited
 
 -- the call in which a thread is blocked, what it waits for, and until when where there is a limit
-pub record Block : Type 0 where
+pub record Blocking : Type 0 where
   pub call : CallName
   pub awaited : Awaited
   pub due : Option ℕ
@@ -54,7 +54,7 @@ pub data Fact : Type 0 where
   dormant_thread : ℕ → Fact
   ended_thread : ℕ → Fact
   ready_thread : ℕ → Priorities → Fact
-  blocked_thread : ℕ → Priorities → Block → Fact
+  blocked_thread : ℕ → Priorities → Blocking → Fact
   -- of a thread, whose bodies it runs above its own, the innermost first
   inner_frames : ℕ → List BodyOf → Fact
   masked : ℕ → ℕ → Fact

@@ -2,7 +2,7 @@
 use Rattle.std.specs.Prelude.{List, None, Option, Some, [], codes, decimal, filter, filter_map, flat_map, not, slice_get, ℕ, ◌∷◌, ◌++◌}
 use Rattle.words_script.specs.declared.decl.Script.{Script}
 use Rattle.rules_bodies.specs.Next.{Place}
-use Rattle.script_writer.specs.Words.{signal_word}
+use Rattle.words_numbers.specs.Words.{signal_word}
 use Rattle.words_trace.specs.Text.{line_of_words}
 use Rattle.rules_machine.specs.Delivery.{taken_by_sweep}
 use Rattle.rules_machine.specs.Machine.{bodies_of, machine}

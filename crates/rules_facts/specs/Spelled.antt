@@ -1,18 +1,18 @@
 -- The lines of facts and numbers: the words of a subject, and what is told of it. The form is this project's own.
 use Rattle.std.specs.Prelude.{Bool, List, None, Option, Some, [], codes, decimal, flat_map, map, ℕ, ◌==◌, ◌∷◌, ◌++◌, if◌then◌else◌}
-use Rattle.words_numbers.specs.Words.{res_text, sig_code_text}
+use Rattle.words_numbers.specs.Words.{res_text, sig_code_text, signal_word}
 use Rattle.words_script.specs.declared.decl.Decl.{Decl}
 use Rattle.words_script.specs.declared.name_kind.NameKind.TheVariants as kind
 use Rattle.script_writer.specs.Canon.{Words, flag_words}
 use Rattle.script_writer.specs.Names.{name_of}
-use Rattle.script_writer.specs.Words.{is_nil, set_word, signal_word}
+use Rattle.script_writer.specs.Words.{is_nil, set_word}
 use Rattle.words_trace.specs.Calls.{call_word}
 use Rattle.words_trace.specs.Text.{line_of_words}
 use Rattle.rules_server.specs.declared.Replenish.{Replenish}
 use Rattle.rules_machine.specs.declared.frame.BodyOf.{BodyOf}
 use Rattle.rules_machine.specs.declared.frame.BodyOf.TheVariants as body_of
 use Rattle.rules_machine.specs.State.{Message, Registration}
-use Rattle.rules_facts.specs.Fact.{Arming, Awaited, Block, Cancelability, Fact, Number, Owner, Pending, Priorities, arming_of, blocked_thread, budget, cancelability, counted, dormant_thread, ended_thread, inner_frames, left_of_unit, masked, messages_of, nothing, on_list, one_signal_of, owner, pending_signals, pushed_cleanups, ready_thread, receivers_of, registration_of, replenishments, semaphore_value, senders_of, thing, used_of_slice, waiters_of}
+use Rattle.rules_facts.specs.Fact.{Arming, Awaited, Blocking, Cancelability, Fact, Number, Owner, Pending, Priorities, arming_of, blocked_thread, budget, cancelability, counted, dormant_thread, ended_thread, inner_frames, left_of_unit, masked, messages_of, nothing, on_list, one_signal_of, owner, pending_signals, pushed_cleanups, ready_thread, receivers_of, registration_of, replenishments, semaphore_value, senders_of, thing, used_of_slice, waiters_of}
 
 -- words for one that there may be
 abbrev pub words_if_any : {X : Type 0} → (X → Words) → Option X → Words
@@ -58,7 +58,7 @@ module _ (decls : List Decl) where
   awaited_words (thing sort k) = name_of decls sort k ∷ []
   awaited_words (one_signal_of set) = set_word set ∷ []
 
-  abbrev pub block_words : Block → Words
+  abbrev pub block_words : Blocking → Words
   block_words b = call_word b.call ∷ (awaited_words b.awaited ++ words_if_any until_words b.due)
 
   abbrev pub owner_words : Owner → Words

@@ -9,7 +9,7 @@ use Rattle.rules_machine.specs.CallNames.{name_of}
 use Rattle.rules_machine.specs.Priorities.{assigned_of, exec}
 use Rattle.rules_machine.specs.State.{Frame, Machine, Status, Thread, Wait, Waiting, blocked, dormant, ended, for_condition, for_end, for_message, for_mutex, for_mutex_again, for_room, for_semaphore, for_signal, for_time, runnable}
 use Rattle.rules_machine.specs.Threads.{is_live, is_main, no_thread, thread_at}
-use Rattle.rules_facts.specs.Fact.{Awaited, Block, Cancelability, Fact, Priorities, blocked_thread, cancelability, dormant_thread, ended_thread, inner_frames, masked, nothing, one_signal_of, pushed_cleanups, ready_thread, replenishments, thing}
+use Rattle.rules_facts.specs.Fact.{Awaited, Blocking, Cancelability, Fact, Priorities, blocked_thread, cancelability, dormant_thread, ended_thread, inner_frames, masked, nothing, one_signal_of, pushed_cleanups, ready_thread, replenishments, thing}
 
 -- ---- its status
 
@@ -25,8 +25,8 @@ awaited (for_room q message) = thing kind.Queue q
 awaited (for_message q) = thing kind.Queue q
 awaited (for_signal set) = one_signal_of set
 
-abbrev pub block_of : Waiting → Block
-block_of w = record { call = name_of w.call; awaited = awaited w.wait; due = w.due }
+abbrev pub blocking_of : Waiting → Blocking
+blocking_of w = record { call = name_of w.call; awaited = awaited w.wait; due = w.due }
 
 abbrev pub priorities_of : {P : Type 0} → Machine P → ℕ → Priorities
 priorities_of m t = record { assigned = assigned_of (thread_at m t); exec = exec m t }
@@ -34,7 +34,7 @@ priorities_of m t = record { assigned = assigned_of (thread_at m t); exec = exec
 abbrev pub status_fact : {P : Type 0} → Machine P → ℕ → Status → Fact
 status_fact m t (dormant at) = dormant_thread t
 status_fact m t runnable = ready_thread t (priorities_of m t)
-status_fact m t (blocked w) = blocked_thread t (priorities_of m t) (block_of w)
+status_fact m t (blocked w) = blocked_thread t (priorities_of m t) (blocking_of w)
 status_fact m t ended = ended_thread t
 
 abbrev pub thread_fact : {P : Type 0} → Machine P → ℕ → Fact

@@ -12,7 +12,7 @@ use Rattle.rules_bodies.specs.Fetch.{ops_of}
 use Rattle.rules_machine.specs.declared.frame.BodyOf.{BodyOf}
 use Rattle.rules_machine.specs.declared.frame.BodyOf.TheVariants as body_of
 use Rattle.rules_machine.specs.Declarations.{ThreadDecl, cleanup_kind, declared_thread, handler_kind, named}
-use Rattle.rules_machine.specs.Machine.{block_of}
+use Rattle.rules_machine.specs.Machine.{body_tree}
 use Rattle.rules_flat_code.specs.FlatBodies.{code_of, number_of}
 
 -- the bodies of these numbers are these blocks
@@ -113,7 +113,7 @@ numbered_ops all (n ∷ ns) [] t is = absurd is
 numbered_ops all (n ∷ ns) (b ∷ bs) zero (one, rest) = ops_at all n b one
 numbered_ops all (n ∷ ns) (b ∷ bs) (suc t) (one, rest) = numbered_ops all ns bs t rest
 
-pub body_ops : (script : Script) (b : BodyOf) → ops_of (code_of script) (number_of (code_of script) b) ≡ flat 0 (block_of script b)
+pub body_ops : (script : Script) (b : BodyOf) → ops_of (code_of script) (number_of (code_of script) b) ≡ flat 0 (body_tree script b)
 body_ops script (body_of.Thread t) = let b = bodies_of script.decls in numbered_ops b.all b.threads (thread_blocks script.decls) t (known script).threads
 body_ops script (body_of.Cleanup u) = let b = bodies_of script.decls in numbered_ops b.all b.cleanups (cleanup_blocks script.decls) u (known script).cleanups
 body_ops script (body_of.Handler h) = let b = bodies_of script.decls in numbered_ops b.all b.handlers (handler_blocks script.decls) h (known script).handlers

@@ -46,7 +46,7 @@ abbrev pub HasSignal : Decl → Type 0
 HasSignal (decl.Named name (kind.Timer signal value real)) = IsSignal signal
 HasSignal other = Unit {0}
 
--- at most 256 threads, 16 queues and 32 timers, bodies that are not too long and not nested too deeply, and calls and actions that name
+-- at most 256 threads, 16 queues and 32 timers, bodies of at most 65,536 steps and 16 blocks inside one another, and calls and actions that name
 -- what is declared
 pub record IsRunnable (script : Script) : Type 0 where
   pub few : length (threads_of script) ≤ 256

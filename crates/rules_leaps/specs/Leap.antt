@@ -55,7 +55,7 @@ slice_left most quantum (policy.Rr p) slice = quantum - slice
 slice_left most quantum (policy.Sporadic params) slice = most
 slice_left most quantum (policy.Strict params) slice = most
 
--- the capacity of a sporadic thread at its high priority
+-- the capacity of a sporadic or strict thread at its high priority
 abbrev pub capacity_left : ℕ → Option ServerState → ℕ
 capacity_left most None = most
 capacity_left most (Some s) = if is_high s then s.capacity else most

@@ -82,8 +82,8 @@ abbrev pub ticks_unless_killed : {P : Type 0} → Bodies P → ℕ → Option �
 ticks_unless_killed bodies k None m = ticks_of_head bodies k (head m) (at_head m)
 ticks_unless_killed bodies k (Some signal) m = m
 
-abbrev pub at_once : {P : Type 0} → Bodies P → ℕ → Machine P → Machine P
-at_once bodies k m = ticks_unless_killed bodies k m.killed m
+abbrev pub ticks_at_once : {P : Type 0} → Bodies P → ℕ → Machine P → Machine P
+ticks_at_once bodies k m = ticks_unless_killed bodies k m.killed m
 
 -- what is told: the items of the instant, the runs that are closed, the dispatch that follows where it is a change, and the opening
 abbrev pub told_with_dispatch : {P : Type 0} → Option ℕ → Turn P → List Entry
@@ -104,8 +104,8 @@ IsQuiet bodies k m = (i : ℕ) → 1 ≤ i → i ≤ k → is_eventful bodies m 
 
 -- of any machine: each of the next k ticks, and then the first part of one more
 pub record AreCharges {P : Type 0} (bodies : Bodies P) (k : ℕ) (m : Machine P) : Type 0 where
-  pub each : (j : ℕ) → 1 ≤ j → j ≤ k → ticks bodies j m ≡ record { machine = at_once bodies j m; events = told_with_dispatch m.killed (turn_of m) }
-  pub last : one_charge bodies (ticks bodies k m).machine ≡ at_once bodies (k + 1) m
+  pub each : (j : ℕ) → 1 ≤ j → j ≤ k → ticks bodies j m ≡ record { machine = ticks_at_once bodies j m; events = told_with_dispatch m.killed (turn_of m) }
+  pub last : one_charge bodies (ticks bodies k m).machine ≡ ticks_at_once bodies (k + 1) m
 
 -- an instant with its items handled
 abbrev pub handled_at : Script → ℕ → Turn Place

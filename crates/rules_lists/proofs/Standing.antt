@@ -1,9 +1,9 @@
 -- How often a thread stands in a list, and that a list of distinct threads has room for one more.
 use Rattle.std.proofs.Common.{◌≡◌, ◌≢◌, ℕ, suc, ◌+◌, ◌<◌, ◌≤◌, true, false, not, ◌==◌, List, [], ◌∷◌, ◌++◌, length, eqb, refl, arith, inl, inr}
 use Rattle.std.specs.List.{list_any, IsDistinct, AllByRecursion}
-use Rattle.std.specs.Prelude.{All, insert}
+use Rattle.std.specs.Prelude.{All}
 use Rattle.std.proofs.lemmas.Map.Keys.{IsDistinct-cons}
-use Rattle.std.proofs.lemmas.List.Elements.{All-append, All-cons, All-filter}
+use Rattle.std.proofs.lemmas.List.Elements.{All-cons}
 use Rattle.std.proofs.lemmas.Bool.Decides.{eqb_tells, nat_tests}
 use Rattle.std.proofs.lemmas.Map.Steps.{length-le_from_distinct_below}
 use Rattle.rules_lists.specs.Threads.{AreThreads, times, stands_in, without_thread}
@@ -26,10 +26,6 @@ times_stays t u (x ∷ xs) other = grind (arith, nat_tests, times_stays t u xs o
 pub absent : (t : ℕ) (xs : List ℕ) → stands_in t xs ≡ false → times t xs ≡ 0
 absent t [] h = refl
 absent t (x ∷ xs) h = grind (arith, nat_tests, absent t xs)
-
-pub absent_back : (t : ℕ) (xs : List ℕ) → times t xs ≡ 0 → stands_in t xs ≡ false
-absent_back t [] h = refl
-absent_back t (x ∷ xs) h = grind (arith, nat_tests, absent_back t xs)
 
 pub present : (t : ℕ) (xs : List ℕ) → stands_in t xs ≡ true → 1 ≤ times t xs
 present t [] h = cc
@@ -83,21 +79,3 @@ has_room t us known ok none =
 pub times_le : (t u : ℕ) (us : List ℕ) → times u (without_thread t us) ≤ times u us
 times_le t u us =
     elim (eqb_tells u t) [ inl same ↦ grind (arith, times_gone t us) | inr other ↦ omega (arith, times_stays t u us other.1) ]
-
--- what `push_front` leaves
-pub at_front : (t : ℕ) (us new : List ℕ) → t < 256 → AreThreads us → stands_in t us ≡ false → new ≡ insert us 0 t → AreThreads new
-at_front t us new known ok none put = rw put (front_ok t us known ok none)
-
--- what `push_back` leaves
-pub at_back : (t : ℕ) (us new : List ℕ) → t < 256 → AreThreads us → stands_in t us ≡ false → new ≡ us ++ t ∷ [] → AreThreads new
-at_back t us new known ok none put = rw put (record {
-  once = λ u. grind (arith, nat_tests, times-append u us (t ∷ []), absent t us none, ok.once u);
-  small = All-append (λ u. u < 256) us (t ∷ []) ok.small (All-cons (λ u. u < 256) t [] known (λ k d lt. absurd (omega arith)));
-})
-
--- what `remove` leaves
-pub left_ok : (t : ℕ) (us new : List ℕ) → AreThreads us → new ≡ without_thread t us → AreThreads new
-left_ok t us new ok left = rw left (record {
-  once = λ u. omega (arith, times_le t u us, ok.once u);
-  small = All-filter (λ u. not (u == t)) (λ u. u < 256) us ok.small;
-})

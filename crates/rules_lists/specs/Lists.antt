@@ -8,7 +8,7 @@ use Rattle.std.specs.Prelude.{◌≡◌, ℕ, ◌+◌, ◌-◌, ◌<◌, ◌≤�
 use Rattle.std.specs.Option.{option_or}
 use Rattle.rules_lists.specs.Threads.{stands_in, times, without_thread}
 
--- all lists, without a thread (SCHED_FIFO: a thread list exists for each priority)
+-- all lists, without a thread (there is one thread list for each priority)
 abbrev pub empty_lists : List (List ℕ)
 empty_lists = replicate 255 []
 

@@ -15,10 +15,6 @@ times t (u ∷ threads) = (if u == t then 1 else 0) + times t threads
 abbrev pub without_thread : ℕ → List ℕ → List ℕ
 without_thread t threads = filter (λ u. not (u == t)) threads
 
--- the thread alone moves, to the end
-abbrev pub moved_to_back : ℕ → List ℕ → List ℕ
-moved_to_back t threads = without_thread t threads ++ t ∷ []
-
 -- numbers of threads, each at most once
 pub record AreThreads (threads : List ℕ) : Type 0 where
   pub once : (t : ℕ) → times t threads ≤ 1

@@ -26,7 +26,7 @@ use Rattle.rules_machine.specs.Mutexes.{moves_unless_boosted}
 use Rattle.rules_machine.specs.Signals.{delivers, without_record}
 use Rattle.rules_machine.specs.Timers.{armed_again, expires, is_pending_from, overrun_once_more, record_of_timer, signals_expiry}
 use Rattle.rules_machine.specs.Delivery.{acts, interrupts, sweeps, sweeps_all, sweeps_thread, taken_by_sweep, takes_record, ticks_left}
-use Rattle.rules_machine.specs.DueItems.{handles, instant, item_bound, item_done, item_then, items_done, next_item, times_out, wait_times_out}
+use Rattle.rules_machine.specs.DueItems.{handles, instant, item_done, times_out, wait_times_out}
 use Rattle.rules_machine.specs.Dispatch.{dispatch_event, dispatch_of, dispatches, head, is_same, tells_unless}
 use Rattle.rules_machine.specs.Units.{InUnit, in_unit}
 use Rattle.rules_machine.specs.Ticks.{TickEnd, completes_at, ends_tick, exhausting, goes_on, later, nothing, planning, runs, runs_head, slicing, tick, tick_charged, tick_end, tick_ends, unit_ticked, unless_killed, without_slice, prepares}
@@ -164,17 +164,6 @@ module _ {P : Type 0} (bodies : Bodies P) where
   item_done_behind i told s =
       ap (λ (x : Turn P). sweeps bodies (settles_since s.machine x)) (handles_behind i told s) ∙ sweeps_behind told (settles_since s.machine (handles bodies i s))
 
-  item_then_behind : (o : Option Item) (rest : Turn P → Turn P) → AddsBehind rest → AddsBehind (item_then bodies o rest)
-  item_then_behind None rest h told s = refl
-  item_then_behind (Some i) rest h told s = ap rest (item_done_behind i told s) ∙ h told (item_done bodies i s)
-
-  pub items_done_behind : (most : ℕ) → AddsBehind (items_done bodies most)
-  items_done_behind zero told s = refl
-  items_done_behind (suc most) told s = item_then_behind (next_item s.machine) (items_done bodies most) (items_done_behind most) told s
-
-  pub instant_behind : AddsBehind (instant bodies)
-  instant_behind told s = items_done_behind (item_bound s.machine) told s
-
   -- ---- a tick
 
   pub completes_behind : (left t : ℕ) (unit' : Unit) → AddsBehind (completes_at bodies left t unit')
@@ -214,7 +203,3 @@ module _ {P : Type 0} (bodies : Bodies P) where
 
   pub goes_on_behind : AddsBehind (goes_on bodies)
   goes_on_behind told s = unless_killed_behind s.machine.killed (runs_head bodies) runs_head_behind told s
-
-  -- a tick tells its events behind those that were told before
-  pub tick_behind : AddsBehind (tick bodies)
-  tick_behind told s = ap (goes_on bodies) (instant_behind told s) ∙ goes_on_behind told (instant bodies s)

@@ -1,5 +1,5 @@
 -- What leaves every execution priority as it is.
-use Rattle.std.proofs.Common.{ap, refl, ℕ, ◌≡◌}
+use Rattle.std.proofs.Common.{ap, ℕ, ◌≡◌}
 use Rattle.rules_machine.specs.State.{Machine, Thread}
 use Rattle.rules_machine.specs.Threads.{no_thread}
 use Rattle.rules_machine.specs.Priorities.{claim_of, exec, exec_in}
@@ -10,7 +10,3 @@ use Rattle.rules_machine.proofs.Reading.{changed-map}
 pub exec_same : {P : Type 0} (m : Machine P) (t : ℕ) (f : Thread P → Thread P) → ((th : Thread P) → claim_of (f th) ≡ claim_of th) → (u : ℕ) →
     exec (with_thread t f m) u ≡ exec m u
 exec_same m t f h u = ap (λ cs. exec_in cs m.mutexes u) (changed-map no_thread t f claim_of h m.threads)
-
--- a change of anything but threads and mutexes
-pub exec_elsewhere : {P : Type 0} (m n : Machine P) → m.threads ≡ n.threads → m.mutexes ≡ n.mutexes → (t : ℕ) → exec m t ≡ exec n t
-exec_elsewhere m n threads mutexes t = rw (threads, mutexes) refl

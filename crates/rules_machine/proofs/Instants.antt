@@ -10,8 +10,7 @@ use Rattle.rules_machine.specs.declared.signal.SigAction.TheVariants as action
 use Rattle.rules_machine.specs.Bodies.{Bodies}
 use Rattle.rules_machine.specs.State.{Machine, SignalRecord, Waiting}
 use Rattle.rules_machine.specs.Threads.{action_of, can_run, thread_at, thread_numbers, top_left, waiting_of}
-use Rattle.rules_machine.specs.Settling.{settled}
-use Rattle.rules_machine.specs.Turns.{Turn, becomes, changes, changes_pending, settles_since, tells}
+use Rattle.rules_machine.specs.Turns.{Turn, becomes, changes, changes_pending, tells}
 use Rattle.rules_machine.specs.Servers.{has_high, plans, plans_server}
 use Rattle.rules_machine.specs.Signals.{without_record}
 use Rattle.rules_machine.specs.Delivery.{acts, interrupts, sweeps, sweeps_all, sweeps_thread, taken_by_sweep, takes_record, ticks_left}
@@ -21,12 +20,6 @@ use Rattle.rules_machine.proofs.Kept.{Kept, kept, wakes_kept}
 use Rattle.rules_machine.proofs.KeptByCalls.{delivers_kept, moves_if_kept, moves_unless_boosted_kept, unit_effect_kept}
 
 -- ---- a settling changes the lists alone
-
-pub settled_only : {P : Type 0} (before : Machine P) (direct : List ℕ) (m : Machine P) → settled before direct m ≡ record m { lists = (settled before direct m).lists }
-settled_only before direct m = refl
-
-pub settles_now : {P : Type 0} (before : Machine P) (s : Turn P) → (settles_since before s).machine.now ≡ s.machine.now
-settles_now before s = refl
 
 -- ---- the parts of a tick leave the instant
 

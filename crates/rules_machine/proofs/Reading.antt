@@ -2,9 +2,9 @@
 use Rattle.std.proofs.Common.{List, [], ap, arith, false, length, refl, suc, zero, ℕ, ◌<◌, ◌∷◌, ◌≡◌}
 use Rattle.std.specs.Prelude.{map, slice_index_or, ◌==◌}
 use Rattle.rules_machine.specs.Lists.{changed_at}
-use Rattle.rules_machine.specs.State.{Machine, Mutex, Queue, Thread, Timer}
-use Rattle.rules_machine.specs.Threads.{mutex_at, no_mutex, no_queue, no_thread, no_timer, queue_at, thread_at, timer_at}
-use Rattle.rules_machine.specs.Turns.{with_mutex, with_queue, with_thread, with_timer}
+use Rattle.rules_machine.specs.State.{Machine, Thread}
+use Rattle.rules_machine.specs.Threads.{no_thread, thread_at}
+use Rattle.rules_machine.specs.Turns.{with_thread}
 
 pub changed-length : {X : Type 0} (none : X) (n : ℕ) (f : X → X) (xs : List X) → length (changed_at none n f xs) ≡ length xs
 changed-length none n f [] = refl
@@ -56,21 +56,3 @@ module _ {P : Type 0} (m : Machine P) where
 
   pub thread-other : (t u : ℕ) (f : Thread P → Thread P) → (t == u) ≡ false → thread_at (with_thread t f m) u ≡ thread_at m u
   thread-other t u f h = changed-other no_thread no_thread t u f m.threads h
-
-  pub mutex-same : (k : ℕ) (f : Mutex → Mutex) → k < length m.mutexes → mutex_at (with_mutex k f m) k ≡ f (mutex_at m k)
-  mutex-same k f h = changed-same no_mutex no_mutex k f m.mutexes h
-
-  pub mutex-other : (k j : ℕ) (f : Mutex → Mutex) → (k == j) ≡ false → mutex_at (with_mutex k f m) j ≡ mutex_at m j
-  mutex-other k j f h = changed-other no_mutex no_mutex k j f m.mutexes h
-
-  pub queue-same : (q : ℕ) (f : Queue → Queue) → q < length m.queues → queue_at (with_queue q f m) q ≡ f (queue_at m q)
-  queue-same q f h = changed-same no_queue no_queue q f m.queues h
-
-  pub queue-other : (q p : ℕ) (f : Queue → Queue) → (q == p) ≡ false → queue_at (with_queue q f m) p ≡ queue_at m p
-  queue-other q p f h = changed-other no_queue no_queue q p f m.queues h
-
-  pub timer-same : (k : ℕ) (f : Timer → Timer) → k < length m.timers → timer_at (with_timer k f m) k ≡ f (timer_at m k)
-  timer-same k f h = changed-same no_timer no_timer k f m.timers h
-
-  pub timer-other : (k j : ℕ) (f : Timer → Timer) → (k == j) ≡ false → timer_at (with_timer k f m) j ≡ timer_at m j
-  timer-other k j f h = changed-other no_timer no_timer k j f m.timers h

@@ -64,7 +64,7 @@ acts_if_blocked u s = if request_acts (thread_at s.machine u) then leaves_wait (
 abbrev pub requested : {P : Type 0} → Thread P → Thread P
 requested th = record th { is_requested = true }
 
--- an effect on a thread that lives; ESRCH where it does not, which of a cancel is this project's own
+-- an effect on a thread that lives; ESRCH where it does not (this project's own, of each call that asks this)
 abbrev pub on_live : {P : Type 0} → Caller → ℕ → (Turn P → Turn P) → Turn P → Turn P
 on_live by u effect s = if lives s.machine u then effect s else returns by res.Srch 0 s
 

@@ -40,7 +40,7 @@ may_run_handler m t = not (option_map_or (λ (w : Waiting). defers_handlers w.wa
 abbrev pub can_take : {P : Type 0} → Machine P → ℕ → SignalRecord → Bool
 can_take m t r = may_go_to t r.target && not (has_signal (thread_at m t).mask r.signal) && (is_kill (action_of m r.signal) || may_run_handler m t)
 
--- in a signal-catching function all signals are masked
+-- in a signal-catching function all signals are masked, as by a full sa_mask (this project's own)
 abbrev pub may_be_interrupted : {P : Type 0} → Thread P → Bool
 may_be_interrupted th = is_live th.status && not (catches_signal th)
 

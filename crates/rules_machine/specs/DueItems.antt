@@ -78,7 +78,6 @@ times_out (Some w) t s = wait_times_out w.wait t s
 
 -- ---- the items of an instant
 
--- how many replenishments are pending, a start and a timeout for each thread, and an expiry for each timer
 abbrev pub pending_count : Option ServerState → ℕ
 pending_count None = 0
 pending_count (Some server) = length server.pending
@@ -87,7 +86,7 @@ abbrev pub items_of_threads : {P : Type 0} → List (Thread P) → ℕ
 items_of_threads [] = 0
 items_of_threads (th ∷ ths) = pending_count th.server + 2 + items_of_threads ths
 
--- No instant has more items than that.
+-- No instant has more items than that: the pending replenishments, a start and a timeout of each thread, and an expiry of each timer.
 abbrev pub item_bound : {P : Type 0} → Machine P → ℕ
 item_bound m = items_of_threads m.threads + length m.timers
 

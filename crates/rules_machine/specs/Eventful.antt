@@ -16,7 +16,7 @@ use Rattle.rules_machine.specs.Runs.{ticks}
 abbrev pub has_item : {P : Type 0} → Machine P → Bool
 has_item m = is_some (next_item m)
 
--- whether a tick completed a unit, used up a slice or brought a capacity to 0; the thread is as the tick's charge left it
+-- whether a tick completed a unit, used up a round robin interval or brought a capacity to 0; the thread is as the tick's charge left it
 abbrev pub tick_matters : {P : Type 0} → Bool → ℕ → Thread P → Bool
 tick_matters was_high quantum th =
     top_left th.frames == 0 || slice_is_used th.policy th.slice quantum || (was_high && capacity_in th.server == 0)

@@ -1,5 +1,6 @@
--- Creation, joining and the end of threads: pthread_create, pthread_join, pthread_exit. This project's own are the ESRCH of a join
--- of a thread that never started, its EINVAL, and that a mutex stays owned when its owner ends.
+-- Creation, joining and the end of threads: pthread_create, pthread_join, pthread_exit. A mutex stays owned when its owner ends
+-- (pthread_exit). This project's own are the ESRCH of a join of a thread that never started, its EINVAL, and that the signals directed
+-- to a thread are dropped as it ends.
 use Rattle.std.specs.Prelude.{Bool, List, None, [], drop, false, filter, not, true, ℕ, ◌==◌, if◌then◌else◌}
 use Rattle.words_numbers.specs.Signals.{every_signal}
 use Rattle.words_numbers.specs.declared.res.Res.TheVariants as res
@@ -58,7 +59,7 @@ wakes_joiner (waits_to_join u) t s = s ▷ changes t (with_joiner has_joined) �
 abbrev pub without_life : {P : Type 0} → Thread P → Thread P
 without_life th = record th { status = ended; frames = []; server = None }
 
--- the signals directed to a thread end with it
+-- the signals directed to a thread end with it (this project's own)
 abbrev pub without_target : ℕ → List SignalRecord → List SignalRecord
 without_target t pending = filter (λ (r : SignalRecord). not (is r.target t)) pending
 

@@ -17,17 +17,17 @@ use Rattle.rules_machine.specs.Runs.{Ran, opening, ticks}
 
 -- ---- the bodies of a script
 
-abbrev pub block_of : Script → BodyOf → Block
-block_of script (body_of.Thread t) = slice_index_or (map (λ (d : ThreadDecl). d.body) (threads_of script)) t Nothing
-block_of script (body_of.Cleanup u) = slice_index_or (cleanups_of script) u Nothing
-block_of script (body_of.Handler h) = slice_index_or (handlers_of script) h Nothing
+abbrev pub body_tree : Script → BodyOf → Block
+body_tree script (body_of.Thread t) = slice_index_or (map (λ (d : ThreadDecl). d.body) (threads_of script)) t Nothing
+body_tree script (body_of.Cleanup u) = slice_index_or (cleanups_of script) u Nothing
+body_tree script (body_of.Handler h) = slice_index_or (handlers_of script) h Nothing
 
 abbrev pub next_in : Block → Place → Seen → NextUnit Place
 next_in block place seen = let found = next block place seen.register seen.result seen.value in
     record { unit = found.unit; place = found.place; register = found.register }
 
 abbrev pub bodies_of : Script → Bodies Place
-bodies_of script = record { start = λ body. body_start; next = λ body. next_in (block_of script body) }
+bodies_of script = record { start = λ body. body_start; next = λ body. next_in (body_tree script body) }
 
 -- ---- the run
 

@@ -55,7 +55,8 @@ moves_unless_boosted t s = moves_if (not (owns_boosting s.machine t)) t s
 
 -- ---- refusals
 
--- EINVAL of pthread_mutex_lock: PTHREAD_PRIO_PROTECT, and the caller's priority is higher than the ceiling
+-- EINVAL of pthread_mutex_lock: PTHREAD_PRIO_PROTECT, and the caller's priority is higher than the ceiling; that it is the
+-- assigned priority is this project's own
 abbrev pub is_above_ceiling : {P : Type 0} → Thread P → Protocol → Bool
 is_above_ceiling th protocol.Plain = false
 is_above_ceiling th protocol.Inherit = false

@@ -9,8 +9,8 @@ use Rattle.rules_machine.specs.Lists.{greatest, is, numbers_where}
 use Rattle.rules_machine.specs.State.{Machine, Mutex, Thread, Wait, Waiting, for_mutex, for_mutex_again}
 use Rattle.rules_machine.specs.Threads.{waiting_in}
 
--- The priority that the policy alone gives. A sporadic thread has that of its server, XSH 2.8.4 SCHED_SPORADIC, and the low
--- one while it is not live and has no server (this project's own).
+-- The priority that the policy alone gives. A sporadic thread has that of its server, XSH 2.8.4 SCHED_SPORADIC, and
+-- so has a strict one; they have the low one while they are not live and have no server (this project's own).
 abbrev pub assigned_under : Policy → Option ServerState → ℕ
 assigned_under (policy.Fifo p) server = p
 assigned_under (policy.Rr p) server = p

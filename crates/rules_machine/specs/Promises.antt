@@ -8,7 +8,7 @@ use Rattle.rules_machine.specs.Runs.{opening}
 use Rattle.rules_machine.specs.Eventful.{busy}
 use Rattle.rules_machine.specs.Budget.{KeepsBudgets}
 use Rattle.rules_machine.specs.GoodState.{StaysGood}
-use Rattle.rules_machine.specs.Machine.{block_of, bodies_of}
+use Rattle.rules_machine.specs.Machine.{body_tree, bodies_of}
 
 -- the cleanup handlers that a step's block has pushed, behind those that stand inside it
 abbrev pub guards_at : (Block → List ℕ) → Block → List ℕ
@@ -23,7 +23,7 @@ guards_round (At i) block = []
 guards_round (In i passes place) block = guards_at (guards_round place) (steps_from i block)
 
 abbrev pub guards_in : Script → BodyOf → Place → List ℕ
-guards_in script body place = guards_round place (block_of script body)
+guards_in script body place = guards_round place (body_tree script body)
 
 -- every state of the run is good, also those between the items of an instant
 abbrev pub RunStaysGood : Script → Type 0

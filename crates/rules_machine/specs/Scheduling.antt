@@ -12,11 +12,11 @@ use Rattle.rules_machine.specs.Servers.{activates_if, server_of}
 use Rattle.rules_machine.specs.Mutexes.{moves_unless_boosted}
 use Rattle.rules_machine.specs.Cancellation.{on_live}
 
--- sched_yield: the caller becomes the tail of its list, and its round robin interval goes on
+-- sched_yield: the caller becomes the tail of its list, and its round robin interval goes on (this project's own)
 abbrev pub yields : {P : Type 0} → Caller → Turn P → Turn P
 yields by s = s ▷ moves by.thread ▷ returns by res.Zero 0
 
--- EINVAL: the high priority of a sporadic server is above its low one
+-- whether the policy takes the priority: that of a server must be above its low one, else EINVAL
 abbrev pub takes_priority : Policy → ℕ → Bool
 takes_priority (policy.Fifo old) p = true
 takes_priority (policy.Rr old) p = true
@@ -29,7 +29,7 @@ at_priority p (policy.Rr old) = policy.Rr p
 at_priority p (policy.Sporadic params) = policy.Sporadic (record params { high = p })
 at_priority p (policy.Strict params) = policy.Strict (record params { high = p })
 
--- of a sporadic thread the high priority alone changes, and its totals go on
+-- of a sporadic or strict thread the high priority alone changes, and its totals go on
 abbrev pub with_priority : {P : Type 0} → ℕ → Thread P → Thread P
 with_priority p th = record th { policy = at_priority p th.policy; server = option_map (set_high p) th.server }
 
@@ -41,7 +41,8 @@ sets_priority by u p s =
 abbrev pub with_policy : {P : Type 0} → Policy → ℕ → Thread P → Thread P
 with_policy new now th = record th { policy = new; slice = 0; server = server_of new now }
 
--- pthread_setschedparam: a runnable thread becomes the tail of its list, and a sporadic one has a new server
+-- pthread_setschedparam: a runnable thread becomes the tail of its list, with a new interval and a new server or none (this project's
+-- own)
 abbrev pub sets_policy : {P : Type 0} → Caller → ℕ → Policy → Turn P → Turn P
 sets_policy by u new s =
     on_live by u (λ s. s ▷ returns by res.Zero 0 ▷ changes u (with_policy new s.machine.now) ▷ activates_if (can_run s.machine u) u ▷ moves_unless_boosted u) s

@@ -1,5 +1,5 @@
--- The sporadic servers of threads: XSH 2.8.4 SCHED_SPORADIC. When a replenishment is planned, and that a thread is activated
--- as it starts, wakes at its high priority or gets that priority back by a refill, are this project's own.
+-- The servers of sporadic and strict threads: XSH 2.8.4 SCHED_SPORADIC. That a thread is activated also as it starts, and as it gets
+-- a new policy, is this project's own, and so are strict servers.
 use Rattle.std.specs.Prelude.{Bool, List, None, Option, Some, [], false, is_some, nat_lt, not, option_map, true, ℕ, ◌==◌, ◌&&◌, ◌∷◌, if◌then◌else◌}
 use Rattle.words_script.specs.declared.policy.Policy.{Policy}
 use Rattle.words_script.specs.declared.policy.Policy.TheVariants as policy
@@ -13,7 +13,7 @@ use Rattle.rules_machine.specs.State.{Thread}
 use Rattle.rules_machine.specs.Threads.{can_run, thread_at, thread_numbers}
 use Rattle.rules_machine.specs.Turns.{Turn, changes, tells, ◌▷◌}
 
--- a thread under the sporadic policy begins with a new server, and any other has none
+-- a sporadic or strict thread begins with a new server, and any other has none
 abbrev pub server_of : Policy → ℕ → Option ServerState
 server_of (policy.Fifo p) now = None
 server_of (policy.Rr p) now = None

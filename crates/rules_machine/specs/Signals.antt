@@ -1,5 +1,6 @@
 -- Queued realtime signals: generation, choice and acceptance. XSH 2.4.1, 2.4.2, kill, pthread_kill, sigqueue, sigwaitinfo. This
--- project's own are the thread that accepts among several, and that kill and tkill are refused where 64 records are pending.
+-- project's own are the thread that accepts among several, and that kill and tkill queue their records, and are refused where 64 are
+-- pending.
 use Rattle.std.specs.Prelude.{Bool, List, None, Option, Some, [], false, filter, is_none, length, nat_le, nat_lt, not, suc, true, zero, ℕ, ◌+◌, ◌-◌, ◌==◌, ◌&&◌, ◌||◌, ◌∷◌, ◌++◌, if◌then◌else◌, bit_and, bit_or}
 use Rattle.words_numbers.specs.Signals.{every_signal, has_signal}
 use Rattle.words_numbers.specs.declared.res.Res.TheVariants as res

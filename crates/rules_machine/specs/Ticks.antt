@@ -19,7 +19,7 @@ use Rattle.rules_machine.specs.Units.{InUnit, in_unit}
 
 -- ---- the charge
 
--- XSH 2.8.4 SCHED_RR: a tick counts towards the quantum
+-- XSH 2.8.4 SCHED_RR: a tick counts towards the round robin interval
 abbrev pub slice_charged : Policy → ℕ → ℕ
 slice_charged (policy.Fifo p) slice = slice
 slice_charged (policy.Rr p) slice = slice + 1
@@ -49,7 +49,7 @@ pub data TickEnd : Type 0 where
   planning : TickEnd
   -- its capacity is used up
   exhausting : TickEnd
-  -- its quantum is used up
+  -- its round robin interval is used up
   slicing : TickEnd
   nothing : TickEnd
 
@@ -82,8 +82,8 @@ tick_end was_high quantum th =
 abbrev pub without_slice : {P : Type 0} → Thread P → Thread P
 without_slice th = record th { slice = 0 }
 
--- XSH 2.8.4 SCHED_SPORADIC and SCHED_RR. That blocking and exhaustion plan a replenishment, and a preemption does not, is this
--- project's own.
+-- XSH 2.8.4 SCHED_SPORADIC and SCHED_RR: blocking and exhaustion plan a replenishment, and a preemption does not. The order of the
+-- cases is this project's own.
 abbrev pub ends_tick : {P : Type 0} → TickEnd → ℕ → Turn P → Turn P
 ends_tick planning t s = plans t s
 ends_tick exhausting t s = s ▷ tells (event.Exhaust t) ▷ plans t ▷ moves_unless_boosted t

@@ -30,7 +30,7 @@ abbrev pub first_expiry : ℕ → ℕ → Option ℕ
 first_expiry zero at = None
 first_expiry (suc value) at = Some at
 
--- the overruns and a pending record stay
+-- the overruns and a pending record stay (this project's own)
 abbrev pub armed : Option ℕ → Bool → ℕ → Timer → Timer
 armed due reading interval k = record k { due = due; is_reading = reading; interval = interval }
 

@@ -27,8 +27,8 @@ waiter_of t priority (Some w) = Some (record { thread = t; waiting = w; priority
 abbrev pub waiters : {P : Type 0} → Machine P → (Wait → Bool) → List Waiter
 waiters m passes = filter_map (λ (t : ℕ). waiter_of t (exec m t) (waiting_of m t)) (numbers_where (waits_so passes) m.threads)
 
--- XSH 2.8.4 and sem_post, mq_send, pthread_cond_signal, sigwaitinfo: the highest priority thread first, and among equals the
--- one that has waited longest
+-- XSH 2.8.4 and sem_post, mq_send, pthread_cond_signal: the highest priority thread first, and among equals the one that has
+-- waited longest. Among threads in sigwaitinfo this choice is this project's own.
 abbrev pub is_served_before : Waiter → Waiter → Bool
 is_served_before a b = nat_lt b.priority a.priority || (a.priority == b.priority && nat_lt a.waiting.serial b.waiting.serial)
 

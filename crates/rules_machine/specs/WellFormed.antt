@@ -1,5 +1,5 @@
 -- What holds of every script that is read, and a run stays good by: a round robin interval of a tick at least, priorities in their
--- range, and cleanup handlers that are pushed and popped by guarded blocks alone. XBD pthread.h lets pthread_cleanup_push and
+-- range, and cleanup handlers that are pushed and popped by guarded blocks alone. XSH pthread_cleanup_pop lets pthread_cleanup_push and
 -- pthread_cleanup_pop appear only in pairs in one block; the ranges are this project's own.
 use Rattle.std.specs.Prelude.{Bool, List, [], false, max, suc, true, ℕ, ◌≡◌, ◌≤◌, ◌∷◌}
 use Rattle.words_numbers.specs.Parameters.{AreParameters}
@@ -84,22 +84,22 @@ StepsPlain (Looping times inner rest) = StepsPlain inner × StepsPlain rest
 StepsPlain (Guarding cleanup run inner rest) = StepsPlain inner × StepsPlain rest
 
 -- how many guarded blocks stand in one another
-abbrev pub depth : Block → ℕ
-depth Nothing = 0
-depth (Running n rest) = depth rest
-depth (Making c rest) = depth rest
-depth (Setting n rest) = depth rest
-depth (Adding n rest) = depth rest
-depth (Taking rest) = depth rest
-depth (Testing named equal inner rest) = max (depth inner) (depth rest)
-depth (Looping times inner rest) = max (depth inner) (depth rest)
-depth (Guarding cleanup run inner rest) = max (suc (depth inner)) (depth rest)
+abbrev pub guard_depth : Block → ℕ
+guard_depth Nothing = 0
+guard_depth (Running n rest) = guard_depth rest
+guard_depth (Making c rest) = guard_depth rest
+guard_depth (Setting n rest) = guard_depth rest
+guard_depth (Adding n rest) = guard_depth rest
+guard_depth (Taking rest) = guard_depth rest
+guard_depth (Testing named equal inner rest) = max (guard_depth inner) (guard_depth rest)
+guard_depth (Looping times inner rest) = max (guard_depth inner) (guard_depth rest)
+guard_depth (Guarding cleanup run inner rest) = max (suc (guard_depth inner)) (guard_depth rest)
 
 -- the bodies of threads have them, at most eight in one another
 abbrev pub KindGuarded : Kind → Type 0
-KindGuarded (kind.Thread policy start body) = StepsPlain body × (depth body ≤ 8)
-KindGuarded (kind.Handler body) = StepsPlain body × (depth body ≤ 0)
-KindGuarded (kind.Cleanup body) = StepsPlain body × (depth body ≤ 0)
+KindGuarded (kind.Thread policy start body) = StepsPlain body × (guard_depth body ≤ 8)
+KindGuarded (kind.Handler body) = StepsPlain body × (guard_depth body ≤ 0)
+KindGuarded (kind.Cleanup body) = StepsPlain body × (guard_depth body ≤ 0)
 KindGuarded other = Unit {0}
 
 abbrev pub DeclGuarded : Decl → Type 0

@@ -174,11 +174,11 @@ is_quiet (event.Cancel t) = true
 is_quiet (event.Killed sig) = true
 is_quiet e = false
 
--- when a thread may begin to wait so
 -- it runs, and is the one whose unit is under way
 abbrev pub Runs : {P : Type 0} → Option ℕ → Machine P → ℕ → Type 0
 Runs who m t = (can_run m t ≡ true) × (who ≡ Some t)
 
+-- when a thread may begin to wait so
 abbrev pub MayWait : {P : Type 0} → Option ℕ → Machine P → ℕ → Wait → Type 0
 MayWait who m t (for_mutex k) = (Runs who m t) × (is_free m k ≡ false) × (closes_cycle m k t ≡ false)
 MayWait who m t (for_mutex_again k how) = (waits_so is_in_condition_wait (thread_at m t) ≡ true) × (is_free m k ≡ false)

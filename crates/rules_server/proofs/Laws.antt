@@ -127,12 +127,6 @@ planned_is kind.Strict s r one may = by_room (has_room s) refl
     by_room true is = appended_is s.params.max r s.pending (grind arith)
     by_room false is = joined_is s.params.max r s.pending one (grind arith)
 
--- where it joins, there is one to join, and else there is room
-pub put_may : (k : ServerKind) (s : ServerState) → 1 ≤ s.params.max → MayPlan k s →
-    (joins_as k (length s.pending) s.params.max ≡ true → 0 < length s.pending) × (joins_as k (length s.pending) s.params.max ≡ false → length s.pending < s.params.max)
-put_may kind.Sporadic s one may = (λ e. absurd (grind arith), λ e. may)
-put_may kind.Strict s one may = (λ e. grind arith, λ e. grind arith)
-
 -- what was consumed is put among the pending ones
 pub put_keeps : (s : ServerState) (r : Replenish) (b : Bool) (items : List Replenish) → IsServer s → 1 ≤ s.consumed → MayPlan s.kind s →
     r.amount ≡ s.consumed → b ≡ joins_as s.kind (length s.pending) s.params.max → items ≡ planned_in b r s.pending → IsServer (record s { consumed = 0; pending = items })

@@ -1,5 +1,5 @@
 //! The flat code, and the next unit of a body.
-ghost use Rattle.std.specs.Prelude.{◌≡◌, ℕ, List, ◌+◌, ◌≤◌, ◌<◌, ◌^◌, [], ◌∷◌, ◌++◌, length, slice_get, slice_index, unwrap_or, All, IfOk, IfSome, OnOk, Some};
+ghost use Rattle.std.specs.Prelude.{◌≡◌, List, ◌+◌, ◌≤◌, ◌<◌, ◌^◌, [], ◌∷◌, ◌++◌, length, slice_index, unwrap_or, IfOk, IfSome, OnOk, Some};
 ghost use Rattle.words_script.specs.Block.{Block};
 ghost use Rattle.words_script.specs.declared.call.Call.{Call};
 ghost use Rattle.words_script.specs.declared.call.Call.TheVariants.{Yield};
@@ -146,6 +146,7 @@ impl Code {
     }
 
     /// The same, where it stands in the table of its body, as all calls do but the short ones. What is told is not copied.
+    /// The contract lets it answer `None` more often.
     #[inline(always)]
     pub fn call_in_table(&self, place: &CallPlace) -> Option<&Call>
         ensures { IfSome result (λ call. call.now ≡ call_of self.now place.now) }

@@ -13,6 +13,7 @@ mod units;
 
 pub use code::Code;
 pub use fetched::{CallPlace, Fetched};
+pub use next::REGISTER_LIMIT;
 pub use ops::{Ops, Packed};
 pub use rules_bodies::{Cursor, Op, Unit};
 pub use short_call::ShortCall;

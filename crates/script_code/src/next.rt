@@ -4,7 +4,8 @@ ghost use Rattle.rules_bodies.specs.Next.{capped, holds};
 
 use words_numbers::Res;
 
-const REGISTER_LIMIT: u64 = 2_000_000_000_000_000_000;
+/// The greatest number that a register may hold.
+pub const REGISTER_LIMIT: u64 = 2_000_000_000_000_000_000;
 
 /// The value of a register that is to be n.
 pub(crate) fn capped(n: u64) -> u64

@@ -65,7 +65,7 @@ impl Ops {
         self.packed.len()
     }
 
-    /// Appends an operation that is no call.
+    /// Appends an operation that the table of calls has no part in: any but one of a call that stands there.
     #[inline(always)]
     pub fn push(&mut self, packed: Packed) -> Result<(), AllocError>
         requires { IsIn [] packed }

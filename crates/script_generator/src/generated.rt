@@ -4,7 +4,6 @@ ghost use Rattle.words_script.specs.Names.{is_name};
 ghost use Rattle.words_script.specs.Tree.{block_of};
 ghost use Rattle.words_script.specs.Block.{Making, Nothing, Running};
 ghost use Rattle.words_script.specs.declared.call.Call.TheVariants.{Nanosleep};
-ghost use Rattle.script_generator.specs.Draws.{Drawn};
 ghost use Rattle.script_generator.specs.Generated.{policy_of, policy_from, holding, deed_of, body_of, body_from, hold, after_deed, task_from, thread_from, shared, script_of};
 
 use crate::draws::Draws;
@@ -29,7 +28,8 @@ fn name_bytes(number: u8) -> ArrayVec<u8, 32>
 {
     let mut text = ArrayVec::new();
     text.push(b't');
-    let _ = text.try_extend_from_slice(Buffer::new().format(number).as_bytes());
+    text.try_extend_from_slice(Buffer::new().format(number).as_bytes())
+        .unwrap();
     text
 }
 
@@ -69,6 +69,7 @@ fn server(high: u8, budget: u64, max: u8) -> Params
     }
 }
 
+// By kind 0 FIFO, 1 RR, else a sporadic server.
 fn policy_of(kind: u64, level: u8, draws: &mut Draws) -> Policy
     requires { 2 ≤ level }
     ensures { policy_of kind level draws.old ≡ record { value = result; state = draws.new } }
@@ -112,7 +113,7 @@ fn holding_steps(
     ]?)
 }
 
-// It runs, does its deed and sleeps.
+// It runs, does its deed and sleeps: the deeds 0 and 1 hold that mutex, 2 posts and sends, 3 receives.
 fn steps(
     alloc: Global,
     run: u64,

@@ -12,5 +12,5 @@ mod stops;
 mod words;
 
 pub use line::Line;
-pub use lines::{Lines, MAX_TEXT};
+pub use lines::Lines;
 pub use words::{Word, Words};

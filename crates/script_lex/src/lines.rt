@@ -7,9 +7,6 @@ use crate::Line;
 use crate::stops::line_marks;
 use std::marker::Model;
 
-/// The greatest length of a text, in bytes.
-pub const MAX_TEXT: usize = 67_108_864;
-
 // The first line without its end, and what follows that end.
 #[inline(always)]
 fn first_line(text: &[u8], len: usize) -> (&[u8], &[u8])
@@ -48,7 +45,7 @@ impl<'a> Model for Lines<'a> {
 }
 
 impl<'a> Lines<'a> {
-    /// All lines of a text of at most [`MAX_TEXT`] bytes.
+    /// All lines of a text of at most 2^26 bytes.
     pub fn new(text: &'a [u8]) -> Lines<'a>
         requires { length text.now ≤ 67_108_864 }
         ensures { result ≡ record { number = 1; lines = lines_of text.now } }

@@ -2,14 +2,14 @@
 mod calls;
 mod meaning;
 
-ghost use Rattle.std.specs.Prelude.{◌≡◌, ◌∷◌, ◌++◌, [], IfOk, MatchOption, option_to_list, unwrap_or};
+ghost use Rattle.std.specs.Prelude.{◌≡◌, ◌∷◌, ◌++◌, [], IfOk, MatchOption, unwrap_or};
 ghost use Rattle.std.specs.Option.{option_map};
 ghost use Rattle.words_script.specs.declared.body.Step.TheVariants as step;
 ghost use Rattle.script_table.specs.Patterns.{greatest};
 ghost use Rattle.script_table.specs.Operands.{number_in};
 ghost use Rattle.script_table.specs.Calls.{call_of};
 ghost use Rattle.script_table.specs.Meaning.{object_decl, action_decl};
-ghost use Rattle.script_table.specs.Build.{Opened, Built, put_step, with_decl, with_step, close_one, closed, opens, after_form, after, nothing_built, built_from, script_of_built, script_of};
+ghost use Rattle.script_table.specs.Build.{Opened, Built, with_decl, with_step, close_one, closed, opens, after, nothing_built, script_of};
 
 use crate::names::NameIndex;
 use crate::operands::number_in;

@@ -50,10 +50,7 @@ pub(crate) fn amount(k: usize, words: &LineWords<'_>) -> Option<u64>
 pub(crate) fn priority(k: usize, words: &LineWords<'_>) -> Option<Prio>
     ensures { result ≡ priority_at k words.now }
 {
-    match number_in(1, 255, k, words) {
-        None => None,
-        Some(level) => Prio::try_new(level as u8),
-    }
+    Prio::try_new(number_in(1, 255, k, words)? as u8)
 }
 
 pub(crate) fn operand(k: usize, words: &LineWords<'_>) -> Option<Operand>
@@ -62,30 +59,21 @@ pub(crate) fn operand(k: usize, words: &LineWords<'_>) -> Option<Operand>
     if is_register(words.word(k)) {
         return Some(Operand::Reg);
     }
-    match amount(k, words) {
-        None => None,
-        Some(n) => Some(Operand::Num(n)),
-    }
+    Some(Operand::Num(amount(k, words)?))
 }
 
 /// An absolute time on CLOCK_MONOTONIC.
 pub(crate) fn moment(k: usize, words: &LineWords<'_>) -> Option<Moment>
     ensures { result ≡ moment_at k words.now }
 {
-    match operand(k, words) {
-        None => None,
-        Some(at) => Some(Moment::Monotonic(at)),
-    }
+    Some(Moment::Monotonic(operand(k, words)?))
 }
 
 /// The same on CLOCK_REALTIME.
 pub(crate) fn real(k: usize, words: &LineWords<'_>) -> Option<Moment>
     ensures { result ≡ real_at k words.now }
 {
-    match operand(k, words) {
-        None => None,
-        Some(at) => Some(Moment::Realtime(at)),
-    }
+    Some(Moment::Realtime(operand(k, words)?))
 }
 
 pub(crate) fn signal(k: usize, words: &LineWords<'_>) -> Option<u8>
@@ -115,10 +103,7 @@ pub(crate) fn name(k: usize, words: &LineWords<'_>) -> Option<Name>
 pub(crate) fn thread(names: &NameIndex<'_>, k: usize, words: &LineWords<'_>) -> Option<Tid>
     ensures { result ≡ named_at kind.Thread names.now k words.now }
 {
-    match names.number_of(NameKind::Thread, words.word(k)) {
-        None => None,
-        Some(number) => Tid::try_new(number),
-    }
+    Tid::try_new(names.number_of(NameKind::Thread, words.word(k))?)
 }
 
 pub(crate) fn object(
@@ -129,10 +114,7 @@ pub(crate) fn object(
 ) -> Option<ObjId>
     ensures { result ≡ named_at kind names.now k words.now }
 {
-    match names.number_of(kind, words.word(k)) {
-        None => None,
-        Some(number) => ObjId::try_new(number),
-    }
+    ObjId::try_new(names.number_of(kind, words.word(k))?)
 }
 
 fn server_of(high: Prio, low: Prio, period: u64, budget: u64, max: u64) -> Option<Params>
@@ -161,35 +143,23 @@ fn server(words: &LineWords<'_>) -> Option<Params>
 pub(crate) fn fifo(k: usize, words: &LineWords<'_>) -> Option<Policy>
     ensures { result ≡ fifo_at k words.now }
 {
-    match priority(k, words) {
-        None => None,
-        Some(level) => Some(Policy::Fifo(level)),
-    }
+    Some(Policy::Fifo(priority(k, words)?))
 }
 
 pub(crate) fn rr(k: usize, words: &LineWords<'_>) -> Option<Policy>
     ensures { result ≡ rr_at k words.now }
 {
-    match priority(k, words) {
-        None => None,
-        Some(level) => Some(Policy::Rr(level)),
-    }
+    Some(Policy::Rr(priority(k, words)?))
 }
 
 pub(crate) fn sporadic(words: &LineWords<'_>) -> Option<Policy>
     ensures { result ≡ sporadic_at words.now }
 {
-    match server(words) {
-        None => None,
-        Some(params) => Some(Policy::Sporadic(params)),
-    }
+    Some(Policy::Sporadic(server(words)?))
 }
 
 pub(crate) fn strict(words: &LineWords<'_>) -> Option<Policy>
     ensures { result ≡ strict_at words.now }
 {
-    match server(words) {
-        None => None,
-        Some(params) => Some(Policy::Strict(params)),
-    }
+    Some(Policy::Strict(server(words)?))
 }

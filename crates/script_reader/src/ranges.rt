@@ -1,11 +1,11 @@
 //! Phase 3: ranges and limits, and the least fault of them.
 mod tally;
 
-ghost use Rattle.std.specs.Prelude.{◌≡◌, ◌≤◌, ◌<◌, ◌^◌, ◌∷◌, ◌++◌, ◌&&◌, not, [], None, Some, MatchResult, length};
+ghost use Rattle.std.specs.Prelude.{◌≡◌, ◌≤◌, ◌<◌, ◌^◌, ◌∷◌, ◌++◌, ◌&&◌, [], None, Some, MatchResult};
 ghost use Rattle.std.specs.Option.{option_map};
 ghost use Rattle.script_table.specs.Faults.{least, least_kind, when};
 ghost use Rattle.script_table.specs.Structure.{IsRising};
-ghost use Rattle.script_table.specs.Ranges.{sets_server, is_server, server_faults, tallied, is_too_many, range_faults, phase_three, no_tally};
+ghost use Rattle.script_table.specs.Ranges.{sets_server, is_server, server_faults, is_too_many, range_faults, phase_three, no_tally};
 ghost use Rattle.script_table.specs.Versions.{most_of};
 ghost use Rattle.script_reader.specs.Ends.{answered};
 

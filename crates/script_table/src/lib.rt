@@ -18,7 +18,7 @@ pub use form::{
     ActionForm, BlockForm, BodyForm, CallForm, CloseForm, Form, MessageCall, MutexCall, ObjectForm,
     SemCall, SignalCall, StepForm, ThreadCall, TimeCall,
 };
-pub use line_faults::{Fitting, any_agrees, fitting_pattern, pattern_of};
+pub use line_faults::{Fitting, any_agrees, fitting_pattern};
 pub use pattern::{Bar, Closer, Opening, Pattern, Place, Table};
 pub use table::patterns;
 pub use version::Version;

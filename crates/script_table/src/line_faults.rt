@@ -4,7 +4,7 @@ ghost use Rattle.std.specs.Str.{bytes_eq};
 ghost use Rattle.std.specs.Option.{option_map};
 ghost use Rattle.script_table.specs.Faults.{least_kind};
 ghost use Rattle.script_table.specs.Patterns.{spot_of, row_of, rows_of};
-ghost use Rattle.script_table.specs.LineFaults.{stands, agrees, fits, any_agrees, fitting_row, place_faults, spelling, fitting_some, unless};
+ghost use Rattle.script_table.specs.LineFaults.{stands, agrees, fits, any_agrees, fitting_row, place_faults, spelling, unless};
 ghost use Rattle.script_table.specs.Ranges.{range_fault};
 ghost use Rattle.script_table.specs.WordFaults.{AreFaultsIn};
 ghost use Rattle.words_script.specs.Names.{is_name};
@@ -195,20 +195,6 @@ pub fn any_agrees(table: &Table, words: &Words<'_>) -> bool
 {
     any_agrees_in(table.declarations, words)
         || (any_agrees_in(table.steps, words) || any_agrees_in(table.calls, words))
-}
-
-/// The pattern of the table that agrees with a line of these words and has their number; `None` exactly where there is none.
-pub fn pattern_of(table: &Table, words: &Words<'_>) -> Option<&'static Pattern>
-    ensures { option_map (λ p. row_of p.now) result ≡ fitting_some (rows_of table.now) words.now.words }
-{
-    let mut rest = words.again();
-    match rest.next_word() {
-        None => None,
-        Some(first) => match fitting_pattern(table, first.bytes, &rest) {
-            None => None,
-            Some(found) => Some(found.pattern),
-        },
-    }
 }
 
 fn is_name(word: &[u8]) -> bool

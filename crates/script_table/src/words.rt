@@ -26,7 +26,7 @@ pub fn is_number(word: &[u8]) -> bool
     !word.is_empty() && are_digits(word)
 }
 
-/// The value of digits, of which there are few; `None` also where there are many.
+/// The value of digits, of which there are at most 18; `None` also where there are more.
 #[inline(always)]
 pub fn short_number(word: &[u8]) -> Option<u64>
     ensures { IfSome result (λ n. (is_number word.now ≡ true) × (n ≡ value_of word.now)) }
@@ -154,10 +154,7 @@ fn named_signals(word: &[u8]) -> Option<SigSet>
     let mut ahead = Some(word);
     while let Some(rest) = ahead {
         let (part, more) = first_part(rest);
-        let Some(sig) = signal_of(part) else {
-            return None;
-        };
-        set = set.insert(sig);
+        set = set.insert(signal_of(part)?);
         ahead = more;
     }
     Some(set)

@@ -5,7 +5,8 @@ use Rattle.std.specs.List.{filter, range_with_len}
 use Rattle.std.proofs.lemmas.List.{map_push}
 use Rattle.std.proofs.lemmas.List.Elements.{filter-append}
 use Rattle.words_numbers.specs.Signals.{has_signal}
-use Rattle.script_writer.specs.Words.{signal_word, after_commas, joined_by_commas, is_nil, listed}
+use Rattle.script_writer.specs.Words.{after_commas, joined_by_commas, is_nil, listed}
+use Rattle.words_numbers.specs.Words.{signal_word}
 
 range_more : (a n : ℕ) → range_with_len a (suc n) ≡ range_with_len a n ++ (a + n) ∷ []
 range_more a zero = let same : a ≡ a + 0 = omega arith in ap (λ x. x ∷ []) same

@@ -1,7 +1,7 @@
 -- The canonical text of a script: its lines, each as its words. The script language is this project's own.
 use Rattle.std.specs.Prelude.{ℕ, ◌==◌, if◌then◌else◌, Bool, true, false, List, [], ◌∷◌, ◌++◌, map, Option, None, Some, codes, decimal}
 use Rattle.words_numbers.specs.declared.res.Res.{Res}
-use Rattle.words_numbers.specs.Words.{res_text}
+use Rattle.words_numbers.specs.Words.{res_text, signal_word}
 use Rattle.words_script.specs.declared.call.Call.{Call}
 use Rattle.words_script.specs.declared.call.Call.TheVariants as call
 use Rattle.words_script.specs.declared.policy.Policy.{Policy}
@@ -17,7 +17,7 @@ use Rattle.words_script.specs.Block.{Block, Nothing, Running, Making, Setting, A
 use Rattle.script_lex.specs.Joined.{joined_words, joined_lines}
 use Rattle.words_script.specs.declared.name_kind.NameKind.TheVariants as name_kind
 use Rattle.script_writer.specs.Names.{name_of}
-use Rattle.script_writer.specs.Words.{moment_words, operand_word, signal_word, set_word}
+use Rattle.script_writer.specs.Words.{moment_words, operand_word, set_word}
 
 -- a line, as its words
 abbrev pub Words : Type 0

@@ -6,7 +6,7 @@ use Rattle.words_script.specs.declared.body.Step.TheVariants as step
 use Rattle.words_script.specs.declared.decl.Decl.{Decl}
 use Rattle.words_script.specs.declared.decl.Kind.{Kind}
 use Rattle.words_script.specs.declared.decl.Kind.TheVariants as kind
-use Rattle.script_writer.specs.Words.{signal_word}
+use Rattle.words_numbers.specs.Words.{signal_word}
 use Rattle.script_writer.specs.Canon.{Words, policy_words, start_words, protocol_words, flag_words, call_words, run_words, set_words, add_words, take_words, test_words, loop_words, push_words, pop_words, end_words}
 
 abbrev pub step_words : List Decl → Step → Words

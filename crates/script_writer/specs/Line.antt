@@ -3,7 +3,8 @@ use Rattle.std.specs.Prelude.{ℕ, ◌+◌, ◌≤◌, List, [], ◌∷◌, leng
 use Rattle.script_lex.specs.Joined.{joined_words}
 use Rattle.script_writer.specs.declared.line.Word.{Word}
 use Rattle.script_writer.specs.declared.line.Word.TheVariants.{Keyword, Name, Number, Value, Signal, Signals}
-use Rattle.script_writer.specs.Words.{operand_word, signal_word, set_word}
+use Rattle.script_writer.specs.Words.{operand_word, set_word}
+use Rattle.words_numbers.specs.Words.{signal_word}
 
 -- how a word is spelled
 abbrev pub spelled : Word → List ℕ

@@ -2,6 +2,7 @@
 use Rattle.std.specs.Prelude.{ℕ, ◌==◌, Bool, true, false, if◌then◌else◌, List, [], ◌∷◌, ◌++◌, map, filter, codes, decimal}
 use Rattle.std.specs.List.{range_with_len}
 use Rattle.words_numbers.specs.Signals.{every_signal, has_signal}
+use Rattle.words_numbers.specs.Words.{signal_word}
 use Rattle.words_script.specs.declared.call.Moment.{Moment}
 use Rattle.words_script.specs.declared.call.Moment.TheVariants.{Monotonic, Realtime}
 use Rattle.words_script.specs.declared.call.Operand.{Operand}
@@ -16,9 +17,6 @@ operand_word Reg = codes "reg"
 abbrev pub moment_words : Moment → List (List ℕ)
 moment_words (Monotonic at) = operand_word at ∷ []
 moment_words (Realtime at) = operand_word at ∷ codes "real" ∷ []
-
-abbrev pub signal_word : ℕ → List ℕ
-signal_word sig = codes "rt" ++ decimal sig
 
 -- the signals of a set, rising
 abbrev pub signals_of : ℕ → List ℕ

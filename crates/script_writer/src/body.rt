@@ -1,6 +1,5 @@
 //! The lines of bodies.
-ghost use Rattle.std.specs.Prelude.{◌≡◌, ◌∷◌, ◌++◌, [], codes};
-ghost use Rattle.words_numbers.specs.Words.{res_text};
+ghost use Rattle.std.specs.Prelude.{◌≡◌, ◌∷◌, ◌++◌, []};
 ghost use Rattle.words_script.specs.Tree.{block_of};
 ghost use Rattle.script_writer.specs.Line.{line_text};
 ghost use Rattle.script_writer.specs.Canon.{test_words, loop_words, pop_words, end_words, block_lines, text_of};

@@ -1,9 +1,8 @@
 //! The lines of declarations.
 ghost use Rattle.std.specs.Prelude.{◌≡◌, ◌≤◌, ◌∷◌, ◌++◌, [], length, codes, decimal, true, false};
 ghost use Rattle.script_writer.specs.Line.{line_text};
-ghost use Rattle.script_writer.specs.Names.{name_of};
-ghost use Rattle.script_writer.specs.Words.{signal_word};
-ghost use Rattle.script_writer.specs.Canon.{block_lines, policy_words, start_words, protocol_words, flag_words, kind_lines, action_words, decl_lines, text_of, end_words};
+ghost use Rattle.words_numbers.specs.Words.{signal_word};
+ghost use Rattle.script_writer.specs.Canon.{policy_words, start_words, protocol_words, flag_words, kind_lines, action_words, decl_lines, text_of};
 ghost use Rattle.std.specs.Option.{option_map};
 ghost use Rattle.script_writer.specs.Firsts.{named_words, body_in};
 ghost use Rattle.script_writer.specs.Writes.{Writes};

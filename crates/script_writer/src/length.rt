@@ -2,7 +2,7 @@
 ghost use Rattle.std.specs.Prelude.{◌≡◌, ◌≤◌, ◌+◌, ◌-◌, ◌^◌, ◌∷◌, ◌++◌, [], length, min};
 ghost use Rattle.words_script.specs.Tree.{block_of};
 ghost use Rattle.script_writer.specs.Firsts.{capped_len};
-ghost use Rattle.script_writer.specs.Canon.{block_lines, kind_lines, decl_lines, decls_lines, version_lines, body_lines, text_of, canon};
+ghost use Rattle.script_writer.specs.Canon.{block_lines, kind_lines, decl_lines, decls_lines, version_lines, text_of, canon};
 
 use crate::body::{block_in, closing_line, end_line, step_line};
 use crate::decl::{action_line, body_in, named_line};

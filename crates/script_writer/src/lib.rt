@@ -2,9 +2,9 @@
 //!
 //! Proved: `write_script` has the contract of one write of the whole canonical text, for every form; it takes no memory.
 //!
-//! That of version 2 begins with the line `version 2`. It has the quantum and then the declarations in their order, a line for each, for each step and
-//! for the end of each block; one blank between words, and no indentation; numbers without leading zeros;
-//! and a set of signals as `all`, `none`, or its signals rising.
+//! It has the quantum and then the declarations in their order, a line for each, for each step and for the end of each block; one blank
+//! between words, and no indentation; numbers without leading zeros; and a set of signals as `all`, `none`, or its signals rising. That
+//! of version 2 begins with the line `version 2`.
 #![tactic(auto)]
 
 mod body;

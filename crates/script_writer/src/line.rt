@@ -1,7 +1,8 @@
 //! The text of a line, made of words.
-ghost use Rattle.std.specs.Prelude.{◌≡◌, ◌<◌, ◌≤◌, ◌+◌, ◌++◌, ◌∷◌, [], length, decimal, map};
-ghost use Rattle.script_lex.specs.Joined.{joined_words, after_blanks};
-ghost use Rattle.script_writer.specs.Words.{operand_word, signal_word, set_word, signals_of, joined_by_commas, listed};
+ghost use Rattle.std.specs.Prelude.{◌≡◌, ◌<◌, ◌≤◌, ◌+◌, ◌++◌, ◌∷◌, [], length, map};
+ghost use Rattle.script_lex.specs.Joined.{after_blanks};
+ghost use Rattle.script_writer.specs.Words.{operand_word, set_word, signals_of, joined_by_commas, listed};
+ghost use Rattle.words_numbers.specs.Words.{signal_word};
 ghost use Rattle.script_writer.specs.Line.{spelled, width, total_width, line_text, IsShort, AreShort};
 
 use arrayvec::ArrayVec;

@@ -44,11 +44,11 @@ fn told(timer: &Timer) -> (Option<u64>, u64, u32) {
 fn a_timer_expires_again(rt: HostRuntime) {
     let mut timers = opened(rt.alloc()).expect(&rt, "memory");
     let k = object(0);
-    timers.settime(k, Some(tick(10)), false, 4);
+    timers.set_timer(k, Some(tick(10)), false, 4);
     assert_eq!(rt; told(timers.get(k)), (Some(10), 3, 0));
     timers.arm_again(k, tick(10));
     assert_eq!(rt; told(timers.get(k)), (Some(14), 7, 0));
-    timers.settime(k, None, false, 0);
+    timers.set_timer(k, None, false, 0);
     assert_eq!(rt; told(timers.get(k)), (None, 0, 0));
 }
 
@@ -61,7 +61,7 @@ fn overruns_are_told_when_the_signal_is_accepted(rt: HostRuntime) {
     timers.overrun_once_more(k);
     timers.overrun_once_more(k);
     assert_eq!(rt; told(timers.get(k)), (None, 0, 0));
-    timers.accepted(k);
+    timers.tell_overrun(k);
     assert_eq!(rt; told(timers.get(k)), (None, 0, 2));
     assert_eq!(rt; timers.count(), 1);
 }

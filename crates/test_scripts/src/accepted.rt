@@ -4,7 +4,7 @@ use std::alloc::{AllocError, Global};
 use std::test::Fail;
 
 // What reading a text of any length answers: no fault where it is a script.
-fn fault_of(alloc: Global, text: &[u8]) -> Option<(u32, FaultKind)> {
+pub(crate) fn fault_of(alloc: Global, text: &[u8]) -> Option<(u32, FaultKind)> {
     if text.len() > 1_048_576 {
         return None;
     }

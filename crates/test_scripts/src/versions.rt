@@ -1,6 +1,7 @@
 //! Scripts of version 2.
+use crate::accepted::fault_of;
 use parts_io::MemSink;
-use script_reader::{FaultKind, Script, ScriptEnd, read_script};
+use script_reader::{FaultKind, Script, read_script};
 use script_writer::{canon_len, write_script};
 use std::alloc::{AllocError, Global};
 use std::test::Fail;
@@ -14,17 +15,6 @@ fn threads(alloc: Global, heading: &[u8], count: u32) -> Result<Vec<u8>, AllocEr
         text.extend_from_slice(line.as_bytes())?;
     }
     Ok(text)
-}
-
-// The line and kind of a text's fault; no line where it is a script.
-fn fault_of(alloc: Global, text: &[u8]) -> Option<(u32, FaultKind)> {
-    if text.len() > 1_048_576 {
-        return None;
-    }
-    match read_script(alloc, text) {
-        Err(ScriptEnd::Fault(line, kind)) => Some((line, kind)),
-        _ => None,
-    }
 }
 
 #[test]
@@ -82,13 +72,13 @@ fn a_script_is_written_as_one_of_version_2(rt: HostRuntime) -> Result<(), Fail> 
             assert!(rt; false);
             return Ok(());
         };
-        assert_eq!(rt; is_written(alloc, &script, canonical)?, true);
+        assert!(rt; is_written(alloc, &script, canonical)?);
         let upgraded = Script {
             version: 2,
             quantum: script.quantum,
             decls: script.decls,
         };
-        assert_eq!(rt; is_written(alloc, &upgraded, second)?, true);
+        assert!(rt; is_written(alloc, &upgraded, second)?);
     }
     Ok(())
 }

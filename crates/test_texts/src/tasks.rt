@@ -1,5 +1,5 @@
 //! Worked texts of tasks: their responses, and their faults. The values were worked out by hand.
-ghost use Rattle.std.specs.Prelude.{◌≡◌, ◌^◌, ◌≤◌, length};
+ghost use Rattle.std.specs.Prelude.{◌≡◌, ◌^◌, ◌≤◌};
 
 use parts_steps::Steps;
 use std::alloc::{AllocError, Global};

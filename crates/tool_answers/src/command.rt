@@ -6,6 +6,13 @@ ghost use Rattle.tool_answers.specs.Command.{command, command_of, long_command_o
 use script_table::{capped_value, is_number};
 use words_numbers::{GREATEST_NUMBER, Tick};
 
+/// The greatest length of a script's text, in bytes.
+pub const SCRIPT_LIMIT: u64 = 1_048_576;
+
+// The greatest length of a script with a trace, and of a set of tasks, in bytes.
+const TRACE_LIMIT: u64 = 67_108_864;
+
+// The greatest bound of a response time, in ticks.
 const GREATEST_BOUND: u64 = 100_000_000;
 
 /// A command of the tool.
@@ -38,13 +45,13 @@ impl Command {
         ensures small { result ≤ 67_108_864 }
     {
         match *self {
-            Command::Run(_) => 1_048_576,
-            Command::Show(_) => 1_048_576,
-            Command::Detail(_) => 1_048_576,
-            Command::Check(_) => 67_108_864,
-            Command::Audit => 67_108_864,
-            Command::Upgrade => 1_048_576,
-            Command::ResponseTimes(_) => 67_108_864,
+            Command::Run(_) => SCRIPT_LIMIT,
+            Command::Show(_) => SCRIPT_LIMIT,
+            Command::Detail(_) => SCRIPT_LIMIT,
+            Command::Check(_) => TRACE_LIMIT,
+            Command::Audit => TRACE_LIMIT,
+            Command::Upgrade => SCRIPT_LIMIT,
+            Command::ResponseTimes(_) => TRACE_LIMIT,
             Command::Gen(_) => 0,
             Command::Soak(_, _) => 0,
         }
@@ -88,10 +95,7 @@ fn tick_of(word: &[u8]) -> Option<Tick>
     ensures tick { result ≡ number_up_to (10 ^ 18) word.now }
     ensures limit { IfSome result (λ n. n ≤ 10 ^ 18) }
 {
-    match number_up_to(GREATEST_NUMBER, word) {
-        None => None,
-        Some(n) => Tick::try_new(n),
-    }
+    Tick::try_new(number_up_to(GREATEST_NUMBER, word)?)
 }
 
 fn command_of(word: &[u8], number: &[u8]) -> Option<Command>
@@ -99,35 +103,17 @@ fn command_of(word: &[u8], number: &[u8]) -> Option<Command>
     ensures limit { IfSome result IsWithinLimit }
 {
     if word == b"run".as_slice() {
-        match tick_of(number) {
-            None => None,
-            Some(horizon) => Some(Command::Run(horizon)),
-        }
+        Some(Command::Run(tick_of(number)?))
     } else if word == b"show".as_slice() {
-        match tick_of(number) {
-            None => None,
-            Some(horizon) => Some(Command::Show(horizon)),
-        }
+        Some(Command::Show(tick_of(number)?))
     } else if word == b"detail".as_slice() {
-        match tick_of(number) {
-            None => None,
-            Some(horizon) => Some(Command::Detail(horizon)),
-        }
+        Some(Command::Detail(tick_of(number)?))
     } else if word == b"check".as_slice() {
-        match tick_of(number) {
-            None => None,
-            Some(horizon) => Some(Command::Check(horizon)),
-        }
+        Some(Command::Check(tick_of(number)?))
     } else if word == b"rta".as_slice() {
-        match number_up_to(GREATEST_BOUND, number) {
-            None => None,
-            Some(bound) => Some(Command::ResponseTimes(bound)),
-        }
+        Some(Command::ResponseTimes(number_up_to(GREATEST_BOUND, number)?))
     } else if word == b"gen".as_slice() {
-        match number_up_to(GREATEST_NUMBER, number) {
-            None => None,
-            Some(seed) => Some(Command::Gen(seed)),
-        }
+        Some(Command::Gen(number_up_to(GREATEST_NUMBER, number)?))
     } else {
         None
     }
@@ -150,13 +136,8 @@ fn soak(seed: &[u8], horizon: &[u8]) -> Option<Command>
     ensures command { result ≡ map_two Command.Soak (number_up_to (10 ^ 18) seed.now) (number_up_to (10 ^ 18) horizon.now) }
     ensures limit { IfSome result IsWithinLimit }
 {
-    match number_up_to(GREATEST_NUMBER, seed) {
-        None => None,
-        Some(seed) => match tick_of(horizon) {
-            None => None,
-            Some(horizon) => Some(Command::Soak(seed, horizon)),
-        },
-    }
+    let seed = number_up_to(GREATEST_NUMBER, seed)?;
+    Some(Command::Soak(seed, tick_of(horizon)?))
 }
 
 fn long_command_of(word: &[u8], first: &[u8], second: &[u8]) -> Option<Command>

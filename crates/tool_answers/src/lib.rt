@@ -10,7 +10,7 @@ mod message;
 mod put;
 mod status;
 
-pub use command::{Command, command_of_words};
+pub use command::{Command, SCRIPT_LIMIT, command_of_words};
 pub use message::{Message, breach_line, refused_head_line, refused_line, refused_task_line};
 pub use put::put_text;
 pub use status::Status;

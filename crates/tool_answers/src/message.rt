@@ -1,5 +1,5 @@
 //! The line of a refused text.
-ghost use Rattle.std.specs.Prelude.{◌≡◌, ◌≤◌, ◌+◌, ◌++◌, [], Some, length, decimal, codes};
+ghost use Rattle.std.specs.Prelude.{◌≡◌, ◌≤◌, ◌+◌, ◌++◌, [], Some, length};
 ghost use Rattle.script_table.specs.Faults as faults;
 ghost use Rattle.tool_audit.specs.Answer.{breach_text};
 ghost use Rattle.tool_audit.specs.Faults as head_faults;

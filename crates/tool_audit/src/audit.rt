@@ -11,7 +11,7 @@ ghost use Rattle.tool_check.specs.Small.{IsSmallLine};
 ghost use Rattle.tool_audit.specs.Server.{NamedServer};
 ghost use Rattle.tool_audit.specs.Watch.{any_breaks, begun, fits_order, watch_after, watch_breach, watch_breaks, watch_lacks, watch_reading, watch_with, watched_after, Watched};
 
-use crate::reading::{check_names, statements, watches};
+use crate::heads::{check_names, statements, watches};
 use crate::watched::{ServerWatch, is_closing};
 use crate::{AuditEnd, Breach};
 use script_lex::Lines;

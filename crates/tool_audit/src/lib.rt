@@ -19,7 +19,7 @@ mod audit;
 mod breach;
 mod end;
 mod fault;
-mod reading;
+mod heads;
 mod replay;
 mod saying;
 mod server;

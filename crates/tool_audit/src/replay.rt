@@ -1,5 +1,5 @@
 //! What the lines so far say of one server, replayed from instant to instant.
-ghost use Rattle.std.specs.Prelude.{◌≡◌, ◌+◌, ◌≤◌, ◌*◌, ◌^◌, nat_lt, slice_get, true, length, ◌<◌, IsTrue, IfNone, IfSome};
+ghost use Rattle.std.specs.Prelude.{◌≡◌, ◌+◌, ◌≤◌, ◌*◌, ◌^◌, nat_lt, slice_get, true, length, ◌<◌, IsTrue};
 ghost use Rattle.std.specs.List.{list_any};
 ghost use Rattle.tool_audit.specs.Leap.{can, left};
 ghost use Rattle.tool_audit.specs.Head.{in_numbers, in_ranges};
@@ -108,7 +108,7 @@ impl Replay {
     fn may(&self) -> bool
         ensures { result ≡ can self.now.limits self.now.account }
     {
-        self.has && self.ahead.len() < self.max as usize
+        self.has && self.has_room()
     }
 
     // Whether a refill is missing whose instant is below this one.

@@ -25,18 +25,10 @@ fn four_words<'a>(mut words: Words<'a>) -> Option<Operands<'a>>
         ((length words.entry.words == 4) ≡ false)
         (λ o. words.entry.words ≡ o.name.now ∷ o.period.now ∷ o.budget.now ∷ o.max.now ∷ []) }
 {
-    let Some(name) = words.next_word() else {
-        return None
-    };
-    let Some(period) = words.next_word() else {
-        return None
-    };
-    let Some(budget) = words.next_word() else {
-        return None
-    };
-    let Some(max) = words.next_word() else {
-        return None
-    };
+    let name = words.next_word()?;
+    let period = words.next_word()?;
+    let budget = words.next_word()?;
+    let max = words.next_word()?;
     match words.next_word() {
         Some(_) => None,
         None => Some(Operands {
@@ -110,9 +102,7 @@ impl<'a> Statement<'a> {
         if period > greatest || (budget > greatest || max > greatest) {
             return None;
         }
-        let Some(name) = Name::try_new(self.words.name) else {
-            return None
-        };
+        let name = Name::try_new(self.words.name)?;
         Some(NamedServer {
             name,
             limits: Limits {

@@ -7,7 +7,7 @@ use Rattle.std.specs.Str.{bytes_eq}
 use Rattle.std.proofs.lemmas.List.FromFn.{get_or-range_with_len, length-range_with_len}
 use Rattle.words_script.specs.Names.{is_name, is_name_byte, is_digit, begins_with_letter}
 use Rattle.script_table.specs.Words.{signal_of, answer_of}
-use Rattle.words_numbers.specs.Words.{res_text, sig_code_text}
+use Rattle.words_numbers.specs.Words.{res_text, sig_code_text, signal_word}
 use Rattle.words_numbers.specs.declared.res.Res.{Res}
 use Rattle.words_numbers.specs.declared.res.Res.TheVariants as res
 use Rattle.words_numbers.specs.declared.sig_code.SigCode.{SigCode}
@@ -15,7 +15,6 @@ use Rattle.words_numbers.specs.declared.sig_code.SigCode.TheVariants as code
 use Rattle.words_trace.specs.declared.event.CallName.{CallName}
 use Rattle.words_trace.specs.declared.event.CallName.TheVariants as call
 use Rattle.words_trace.specs.Calls.{call_word}
-use Rattle.words_trace.specs.Text.{signal_name}
 use Rattle.tool_check.specs.Words.{trace_words, is_call, is_code}
 use Rattle.tool_check.proofs.Numbers.{both, are_digits}
 
@@ -57,7 +56,7 @@ is_it k None = false
 is_it k (Some j) = j == k
 
 abbrev reads : ℕ → Bool
-reads k = is_it k (signal_of (signal_name k)) && list_all is_no_blank (signal_name k)
+reads k = is_it k (signal_of (signal_word k)) && list_all is_no_blank (signal_word k)
 
 each_reads : list_all reads (range_with_len 0 32) ≡ true
 unfolding digits
@@ -79,11 +78,11 @@ it_is : (k : ℕ) (found : Option ℕ) → is_it k found ≡ true → found ≡ 
 it_is k None e = absurd (let f : false ≡ true = e in cc)
 it_is k (Some j) e = ap Some (eqb-true j k e)
 
-pub signal_of-name : (k : ℕ) → k < 32 → signal_of (signal_name k) ≡ Some k
-signal_of-name k h = it_is k (signal_of (signal_name k)) (both (is_it k (signal_of (signal_name k))) (list_all is_no_blank (signal_name k)) (reads_at k h)).0
+pub signal_of-name : (k : ℕ) → k < 32 → signal_of (signal_word k) ≡ Some k
+signal_of-name k h = it_is k (signal_of (signal_word k)) (both (is_it k (signal_of (signal_word k))) (list_all is_no_blank (signal_word k)) (reads_at k h)).0
 
-pub signal_is_word : (k : ℕ) → k < 32 → IsWord (signal_name k)
-signal_is_word k h = (both (is_it k (signal_of (signal_name k))) (list_all is_no_blank (signal_name k)) (reads_at k h)).1
+pub signal_is_word : (k : ℕ) → k < 32 → IsWord (signal_word k)
+signal_is_word k h = (both (is_it k (signal_of (signal_word k))) (list_all is_no_blank (signal_word k)) (reads_at k h)).1
 
 -- the answers and the codes
 pub record IsAnswer (w : List ℕ) : Type 0 where

@@ -1,5 +1,5 @@
 //! What is told of a trace that is not the one that is due.
-ghost use Rattle.std.specs.Prelude.{◌≡◌, ◌≤◌, ◌+◌, ◌++◌, [], Some, codes, decimal, length, is_some, slice_get, true, IfSome};
+ghost use Rattle.std.specs.Prelude.{◌≡◌, ◌≤◌, ◌+◌, ◌++◌, [], Some, length, is_some, slice_get, true, IfSome};
 ghost use Rattle.std.specs.Option.{option_map};
 ghost use Rattle.script_lex.specs.Lines.{lines_of};
 ghost use Rattle.parts_tracer.specs.ShortLines.{column_after};

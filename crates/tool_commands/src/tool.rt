@@ -1,5 +1,5 @@
 //! The top call.
-ghost use Rattle.std.specs.Prelude.{◌≡◌, ◌≤◌, ◌<◌, ◌+◌, ◌^◌, ◌⊎◌, List, ℕ, Option, None, Some, true, false, Ok, length, map, string_bytes, IfSome, IfOk, IsSome, OnOk, OnErr};
+ghost use Rattle.std.specs.Prelude.{◌≡◌, ◌≤◌, ◌<◌, ◌+◌, ◌^◌, ◌⊎◌, List, ℕ, None, Some, Ok, map, string_bytes, IfSome, IsSome};
 ghost use Rattle.std.specs.Io.KnownBytes.{Appends, IsAtEnd};
 ghost use Rattle.parts_io.specs.Bytes.{AppendsPart};
 ghost use Rattle.parts_io.specs.Causes.{Rose, GrewBy};
@@ -14,8 +14,6 @@ ghost use Rattle.rules_bodies.specs.Next.{Place};
 ghost use Rattle.script_writer.specs.Canon.{canon};
 ghost use Rattle.script_writer.specs.Upgraded.{upgraded};
 ghost use Rattle.laws_versions.specs.Versions.{RunsAlike};
-ghost use Rattle.rules_machine.specs.WellFormed.{IsWellFormed};
-ghost use Rattle.rules_flat_code.specs.Runnable.{IsRunnable};
 ghost use Rattle.script_generator.specs.Generated.{script_of};
 ghost use Rattle.words_script.specs.declared.decl.Script.{Script};
 ghost use Rattle.tool_answers.specs.Command.{command, words_limit, Audits, Compares, HasSecondLimit, Divides, Generates, Reads};

@@ -17,11 +17,9 @@ use script_reader::{Script, read_script};
 use std::alloc::{AllocError, Global};
 use std::marker::Brand;
 use std::sync::ledger::Ledger;
-use tool_answers::{Status, put_text};
+use tool_answers::{SCRIPT_LIMIT, Status, put_text};
 use tool_check::{Difference, KnownRoom, Room, compare, divide};
 use words_numbers::Tick;
-
-const SCRIPT_LIMIT: usize = 1_048_576;
 
 // Runs a script into a room of its own, which is longer than the trace by the longest line and a byte, and compares. The room holds each line
 // that can be the first to differ. From the open kernel on, nothing takes memory.
@@ -130,7 +128,7 @@ pub fn check_text<K: Sink, L: Ledger>(
     let Some((head, have)) = divide(text) else {
         return put_text(sink, b"no trace\n", Status::NoTrace);
     };
-    if head.len() > SCRIPT_LIMIT {
+    if head.len() as u64 > SCRIPT_LIMIT {
         return put_text(sink, b"too long\n", Status::TooLong);
     }
     check_head(alloc, head, horizon, have, sink, steps)

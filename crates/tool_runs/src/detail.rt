@@ -7,7 +7,6 @@ ghost use Rattle.rules_machine.specs.Promises.{busy_between};
 ghost use Rattle.rules_machine.specs.WellFormed.{IsWellFormed};
 ghost use Rattle.rules_facts.specs.Detail.{detail};
 ghost use Rattle.kernel_leaps.specs.Shown.{HasFewObjects};
-ghost use Rattle.kernel_state.specs.Kernel.{opened};
 ghost use Rattle.tool_answers.specs.Answer.{Told, SinkFaults, detail_answer};
 ghost use Rattle.tool_answers.specs.Few.{DoubleStepsAreFew};
 

@@ -6,9 +6,7 @@ ghost use Rattle.rules_flat_code.specs.Runnable.{IsRunnable};
 ghost use Rattle.rules_machine.specs.Promises.{busy_between};
 ghost use Rattle.rules_machine.specs.WellFormed.{IsWellFormed};
 ghost use Rattle.rules_facts.specs.Shown.{shown};
-ghost use Rattle.kernel_leaps.specs.Shown.{HasFewObjects, IsInRun};
-ghost use Rattle.kernel_leaps.specs.Ran.{ticked_by};
-ghost use Rattle.kernel_state.specs.Kernel.{opened};
+ghost use Rattle.kernel_leaps.specs.Shown.{HasFewObjects};
 ghost use Rattle.tool_answers.specs.Answer.{Told, SinkFaults, show_answer};
 ghost use Rattle.tool_answers.specs.Few.{StepsAreFew};
 

@@ -1,5 +1,5 @@
 //! Whether a trace keeps the budgets of its servers.
-ghost use Rattle.std.specs.Prelude.{◌≡◌, ◌≤◌, List, ℕ, length};
+ghost use Rattle.std.specs.Prelude.{◌≡◌, ◌≤◌, List, length};
 ghost use Rattle.tool_audit.specs.Breach.{first_breach};
 ghost use Rattle.tool_audit.specs.Head.{read_head};
 ghost use Rattle.tool_audit.specs.Watch.{begun};

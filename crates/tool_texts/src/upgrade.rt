@@ -10,10 +10,7 @@ use parts_io::Sink;
 use script_reader::{Script, ScriptEnd, read_script};
 use script_writer::canon_len;
 use std::alloc::Global;
-use tool_answers::{Status, put_text, refused_line};
-
-/// The greatest length of a script's text, in bytes.
-const SCRIPT_LIMIT: u64 = 1_048_576;
+use tool_answers::{SCRIPT_LIMIT, Status, put_text, refused_line};
 
 // Writes the canonical text of a script, where a script may be as long. It takes no memory.
 fn put_upgraded<K: Sink>(script: &Script, sink: &mut K) -> Status

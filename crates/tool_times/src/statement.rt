@@ -1,6 +1,5 @@
 //! What a line declares.
-ghost use Rattle.std.specs.Prelude.{◌≡◌, ◌∷◌, [], ◌==◌, length, not, true, false, Some, slice_get, option_to_list, codes, MatchOption, MatchResult};
-ghost use Rattle.std.specs.List.{list_all};
+ghost use Rattle.std.specs.Prelude.{◌≡◌, ◌∷◌, [], ◌==◌, length, true, false, Some, slice_get, option_to_list, codes, MatchOption, MatchResult};
 ghost use Rattle.script_lex.specs.Words.{line_words};
 ghost use Rattle.words_script.specs.Names.{is_name};
 ghost use Rattle.tool_times.specs.Read.{operand_faults, word_faults, line_faults, said_line, in_ranges};
@@ -29,21 +28,11 @@ fn five_words<'a>(mut words: Words<'a>) -> Option<Operands<'a>>
         ((length words.entry.words == 5) ≡ false)
         (λ o. words.entry.words ≡ o.name.now ∷ o.priority.now ∷ o.cost.now ∷ o.period.now ∷ o.blocking.now ∷ []) }
 {
-    let Some(name) = words.next_word() else {
-        return None
-    };
-    let Some(priority) = words.next_word() else {
-        return None
-    };
-    let Some(cost) = words.next_word() else {
-        return None
-    };
-    let Some(period) = words.next_word() else {
-        return None
-    };
-    let Some(blocking) = words.next_word() else {
-        return None
-    };
+    let name = words.next_word()?;
+    let priority = words.next_word()?;
+    let cost = words.next_word()?;
+    let period = words.next_word()?;
+    let blocking = words.next_word()?;
     match words.next_word() {
         Some(_) => None,
         None => Some(Operands {
@@ -123,12 +112,8 @@ impl<'a> Statement<'a> {
         if (period < 1 || period > 1_000_000_000) || blocking > 1_000_000 {
             return None;
         }
-        let Some(priority) = Prio::try_new(priority as u8) else {
-            return None
-        };
-        let Some(name) = Name::try_new(self.words.name) else {
-            return None
-        };
+        let priority = Prio::try_new(priority as u8)?;
+        let name = Name::try_new(self.words.name)?;
         Some(Task {
             name,
             priority,

@@ -1,5 +1,5 @@
--- The words of answers and of signal codes.
-use Rattle.std.specs.Prelude.{ℕ, List, codes}
+-- The words of answers, of signal codes and of signals.
+use Rattle.std.specs.Prelude.{ℕ, List, codes, decimal, ◌++◌}
 use Rattle.words_numbers.specs.declared.res.Res.{Res}
 use Rattle.words_numbers.specs.declared.res.Res.TheVariants as res
 use Rattle.words_numbers.specs.declared.sig_code.SigCode.{SigCode}
@@ -25,3 +25,7 @@ sig_code_text code.User = codes "USER"
 sig_code_text code.Queue = codes "QUEUE"
 sig_code_text code.Timer = codes "TIMER"
 sig_code_text code.Mesgq = codes "MESGQ"
+
+-- the word of a realtime signal: `rt` and its number
+abbrev pub signal_word : ℕ → List ℕ
+signal_word sig = codes "rt" ++ decimal sig

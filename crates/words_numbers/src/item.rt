@@ -7,7 +7,7 @@ use crate::{ObjId, Tid};
 /// What falls due at an instant, in the order in which items of one instant are handled.
 #[derive(Clone, Copy, Debug, PartialEq, Eq)]
 pub enum Item {
-    /// The oldest pending replenishment of a sporadic thread.
+    /// The oldest pending replenishment of a sporadic or strict thread.
     Refill(Tid),
     /// The start of a dormant thread.
     Start(Tid),

@@ -83,6 +83,7 @@ pub enum Call {
     TimerGetoverrun(ObjId),
 
     // signals
+    /// The signal, 0 to 31.
     Kill(u8),
     Tkill(Tid, u8),
     Sigqueue(u8, Operand),
@@ -94,7 +95,7 @@ pub enum Call {
     Sigtimedwait(SigSet, u64),
 
     // messages
-    /// The queue, the message's length, its priority and its value.
+    /// The queue, the message's length in bytes, 0 to 65,536, its priority, 0 to 31, and its value.
     MqSend(ObjId, u32, u8, Operand),
     MqTimedsend {
         queue: ObjId,

@@ -27,10 +27,11 @@ pub enum Kind {
         recursive: bool,
     },
     Cond,
+    /// A semaphore of that first value, 0 to 32,767.
     Sem {
         value: u32,
     },
-    /// A message queue: how many messages it holds, and how long each may be.
+    /// A message queue: at most 1 to 64 messages, each of at most 1 to 65,536 bytes.
     Queue {
         depth: u32,
         max_len: u32,

@@ -1,7 +1,7 @@
 -- The lines of a trace, as docs/TRACE.md explains them. The form is this project's own.
 use Rattle.std.specs.Prelude.{ℕ, ◌<◌, length, List, [], ◌∷◌, ◌++◌, codes, decimal, slice_get, unwrap_or, Option, None, Some}
 use Rattle.std.specs.List.{join_with_byte}
-use Rattle.words_numbers.specs.Words.{res_text, sig_code_text}
+use Rattle.words_numbers.specs.Words.{res_text, sig_code_text, signal_word}
 use Rattle.words_trace.specs.declared.event.Event.{Event}
 use Rattle.words_trace.specs.declared.event.Event.TheVariants as event
 use Rattle.words_trace.specs.declared.report.BudgetView.{BudgetView}
@@ -21,10 +21,6 @@ line_of_words words = join_with_byte 32 words ++ 10 ∷ []
 abbrev pub name_at : List (List ℕ) → ℕ → List ℕ
 name_at names t = unwrap_or (slice_get names t) []
 
--- the name of a realtime signal: `rt` and its number
-abbrev pub signal_name : ℕ → List ℕ
-signal_name sig = codes "rt" ++ decimal sig
-
 -- the words of an event, behind its time
 abbrev pub event_words : List (List ℕ) → Event → List (List ℕ)
 event_words names (event.Dispatch t prio) = codes "dispatch" ∷ name_at names t ∷ decimal prio ∷ []
@@ -33,14 +29,14 @@ event_words names (event.Start t) = codes "start" ∷ name_at names t ∷ []
 event_words names (event.Return t call res value) =
     codes "return" ∷ name_at names t ∷ call_word call ∷ res_text res ∷ decimal value ∷ []
 event_words names (event.Deliver t sig code value) =
-    codes "deliver" ∷ name_at names t ∷ signal_name sig ∷ sig_code_text code ∷ decimal value ∷ []
+    codes "deliver" ∷ name_at names t ∷ signal_word sig ∷ sig_code_text code ∷ decimal value ∷ []
 event_words names (event.Activate t capacity) = codes "activate" ∷ name_at names t ∷ decimal capacity ∷ []
 event_words names (event.Exhaust t) = codes "exhaust" ∷ name_at names t ∷ []
 event_words names (event.Plan t amount due) = codes "plan" ∷ name_at names t ∷ decimal amount ∷ decimal due ∷ []
 event_words names (event.Refill t amount capacity) = codes "refill" ∷ name_at names t ∷ decimal amount ∷ decimal capacity ∷ []
 event_words names (event.Cancel t) = codes "cancel" ∷ name_at names t ∷ []
 event_words names (event.Exit t) = codes "exit" ∷ name_at names t ∷ []
-event_words names (event.Killed sig) = codes "killed" ∷ signal_name sig ∷ []
+event_words names (event.Killed sig) = codes "killed" ∷ signal_word sig ∷ []
 event_words names event.End = codes "end" ∷ []
 
 -- the line of an event
@@ -52,7 +48,7 @@ abbrev pub lines : List (List ℕ) → List Entry → List ℕ
 lines names [] = []
 lines names (e ∷ es) = line names e.time e.event ++ lines names es
 
--- the words on a sporadic thread's server: ticks at high priority, initial budget, refilled amounts, capacity
+-- the words on the server of a sporadic or strict thread: ticks at high priority, initial budget, refilled amounts, capacity
 abbrev pub budget_words : Option BudgetView → List (List ℕ)
 budget_words None = []
 budget_words (Some b) =

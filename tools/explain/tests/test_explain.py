@@ -35,6 +35,11 @@ CASES = [
     (BODY.format("unless eintr\nend"), 2, 8, "UnknownWord", "did you mean `EINTR`?"),
     (BODY.format("xyzzyq 5"), 2, 1, "UnknownWord", "has every line that there is"),
     ("mutex m foo\n" + BODY.format("run 1"), 1, 9, "UnknownWord", "`none`, `inherit` or `protect`; the nearest pattern is `mutex NAME none`"),
+    ("mutex m 9\n" + BODY.format("run 1"), 1, 9, "UnknownWord", "a word is missing before `9`"),
+    ("mutex m ceiling 9\n" + BODY.format("run 1"), 1, 9, "UnknownWord", "the nearest pattern is `mutex NAME protect P`"),
+    ("thread a fifo 5 0\nend\n", 1, 17, "UnknownWord", "fix: write `thread NAME fifo P at N`"),
+    ("thread a fifo 5 sleeping\nend\n", 1, 17, "UnknownWord", "the nearest pattern is `thread NAME fifo P dormant`"),
+    (BODY.format("fifo 5"), 2, 1, "UnknownWord", "`fifo` stands behind another word: docs/SCRIPT.md, Patterns"),
     (BODY.format("sigmask set rt1, rt2"), 2, 18, "WordCount", "a set has no blanks round its commas"),
     (BODY.format("//hi"), 2, 1, "UnknownWord", "a comment begins with `#`"),
     (BODY.format("; hi"), 2, 1, "UnknownWord", "a comment begins with `#`"),
@@ -144,7 +149,8 @@ class Faults(unittest.TestCase):
     def test_a_declaration_in_a_body(self) -> None:
         script = b"thread a fifo 5 at 0\n    loop 2\n        mutex m none\n        lock m\n    end\nend\nthread b fifo 5 at 0\nend\n"
         told = shown(script, faults_of(script))
-        self.assertIn("move it above line 1; or, where the body was to be over, write `end` before this line", told)
+        self.assertIn("move it above line 1; or, where the body was to be over, 2 closing lines are missing: write `end` for the `loop` of line 2, "
+                      "then `end` for the `thread` of line 1, before this line", told)
         self.assertEqual([(fault.line, fault.kind.name) for fault in faults_of(script)], [(3, "NotHere")], told)
 
     def test_a_declaration_behind_a_body_without_its_end(self) -> None:

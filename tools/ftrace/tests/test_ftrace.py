@@ -104,7 +104,7 @@ class Ftrace(unittest.TestCase):
     def test_wrong_maps(self) -> None:
         for text, part in (
                 ("thread a 1\n", "no line `tick"), ("tick 0\n", "line 1 of the map, 'tick 0': a tick has"), ("tick -5\n", "a tick has"),
-                ("tick x\n", "no number"), ("tick inf\n", "no number"), ("tick 1e9999999\n", "no number"), ("tick 1\norigin inf\n", "line 2 .* no number"),
+                ("tick 1ms\n", "no number .*; it is tick MICROSECONDS$"), ("tick inf\n", "no number"), ("tick 1e9999999\n", "no number"), ("tick 1\norigin inf\n", "line 2 .* no number"),
                 ("tick 1\nthread A 1\n", "a name is"), ("tick 1\nthread idle 1\n", "calls"), ("tick 1\nthread other 1\n", "calls"),
                 ("tick 1\nthread a 1\nthread a 2\n", "line 3 .* has this name"), ("tick 1\nthread a 1\nthread b 1\n", "has the thread 1"),
                 ("tick 1\nfoo\n", "a line is one of"), ("tick 1\nserver a 1 10 3\n", "server NAME PID PERIOD BUDGET MAX"),

@@ -25,12 +25,15 @@ function changed() {
   if (!element("slider").hidden && !sweep.follow(editor)) showSlider(false);
   runNow(); tellChanges(); remember();
 }
+const NO_HORIZON = "The horizon is a number of ticks from 0 to 10^18.";
+const hasHorizon = () => /^\d{1,19}$/.test(horizon()) && BigInt(horizon()) <= 10n ** 18n;
 function runNow() {
   const since = pressedAt;
   pressedAt = 0;
-  if (!/^\d{1,19}$/.test(horizon()) || BigInt(horizon()) > 10n ** 18n) { say("The horizon is a number of ticks from 0 to 10^18."); return; }
-  runs.a.run(script(), horizon(), title(), since);
+  if (hasHorizon()) { runs.a.run(script(), horizon(), title(), since); return; }
+  runs.a.forget(); document.body.classList.add("stale"); say(NO_HORIZON);
 }
+function runKept() { if (kept !== null && hasHorizon()) runs.b.run(kept, horizon(), title(), 0); }
 function shownA(told, wanted) {
   showFaults(editor, told.faults || []);
   document.body.classList.toggle("stale", !told.data);
@@ -69,8 +72,7 @@ function keep(text) {
   element("beside").setAttribute("aria-pressed", String(two));
   element("figure_b").hidden = element("compared").hidden = !two;
   document.body.classList.toggle("two", two);
-  if (two) runs.b.run(kept, horizon(), title(), 0);
-  compare(); remember();
+  runs.b.forget(); runKept(); compare(); remember();
 }
 function compare() {
   if (!ran || !keptRan) { forgetDifferences(); return; }
@@ -217,14 +219,14 @@ window.addEventListener("keydown", (key) => {
 
 function wire() {
   element("gallery").onchange = () => { if (element("gallery").value) { leave(); begin(element("gallery").value); } else start({ text: script(), name: named }); };
-  element("horizon").oninput = () => { runNow(); tellExample(lesson()); if (kept !== null) runs.b.run(kept, horizon(), title(), 0); remember(); };
+  element("horizon").oninput = () => { runNow(); tellExample(lesson()); runKept(); remember(); };
   element("beside").onclick = KEYS.c; element("sweep").onclick = toggleSweep; element("next").onclick = nextDifference;
   element("back").onclick = () => { const text = kept; leave(); keep(null); editor.write(text); };
   element("least").oninput = element("most").oninput = sweep.bounds;
   element("value").oninput = () => { pressedAt = performance.now(); sweep.slide(editor); };
   element("open").onclick = WITH_CONTROL.o; element("save").onclick = save;
   element("file").onchange = async () => { const file = element("file").files[0]; if (file) { const text = await opened(file); leave(); start({ text, name: file.name.replace(/\.\w+$/, "") }); } element("file").value = ""; };
-  element("export").onchange = async () => { const form = element("export").value; element("export").value = ""; if (form) say(await exported(form, script(), horizon(), title())); };
+  element("export").onchange = async () => { const form = element("export").value; element("export").value = ""; if (form) say(hasHorizon() ? await exported(form, script(), horizon(), title()) : NO_HORIZON); };
   element("link").onclick = async () => {
     const said = addressOf(now()), link = location.href.split("#")[0] + said;
     if (isTooLong(said)) { say("The script is too long for a link: save it, and hand on the file."); return; }

@@ -1,18 +1,25 @@
 // Asks the server for runs. Of one pane the newest script counts: one request is under way, and what was typed meanwhile follows it.
 const PATIENCE = 400, LONG = 700;
 
-// A word for this tab, which it keeps where the page is loaded again, so that a run of another tab is left alone.
+// A word for this tab, which it keeps where the page is loaded again, so that a run of another tab is left alone. It is in the storage
+// only between two pages of the tab: a copy of the tab copies the storage too.
 function tabWord() {
   const fresh = crypto.getRandomValues(new Uint32Array(3)).join("-");
-  try { sessionStorage.setItem("tab", sessionStorage.getItem("tab") ?? fresh); return sessionStorage.getItem("tab"); } catch { return fresh; }
+  try {
+    const word = sessionStorage.getItem("tab") ?? fresh;
+    window.addEventListener("pageshow", () => sessionStorage.removeItem("tab"));
+    window.addEventListener("pagehide", () => sessionStorage.setItem("tab", word));
+    return word;
+  } catch { return fresh; }
 }
 const TAB = tabWord();
 
 export async function ask(pane, form, script, horizon, title) {
   const query = new URLSearchParams({ pane, form, horizon, title, tab: TAB });
-  const answer = await fetch("run?" + query, { method: "POST", body: script, headers: { "Content-Type": "text/plain" } });
-  if (answer.ok) return answer.json();
-  return { why: (await answer.text()).trim() };
+  try {
+    const answer = await fetch("run?" + query, { method: "POST", body: script, headers: { "Content-Type": "text/plain" } });
+    return answer.ok ? await answer.json() : { why: (await answer.text()).trim() };
+  } catch { return { why: "the server does not answer: start bin/pse52-lab again, and give it this link" }; }
 }
 
 export class Runs {
@@ -30,15 +37,16 @@ export class Runs {
     clearTimeout(this.clock);
     const wanted = this.waiting, number = ++this.number;
     this.waiting = null; this.since = performance.now();
-    const clock = setTimeout(this.linger, LONG);
-    let told;
-    try { told = await ask(this.pane, "picture", wanted.script, wanted.horizon, wanted.title); }
-    catch { told = { why: "the server does not answer: start bin/pse52-lab again, and give it this link" }; }
-    clearTimeout(clock);
+    clearTimeout(this.patience);
+    this.patience = setTimeout(this.linger, LONG);
+    const told = await ask(this.pane, "picture", wanted.script, wanted.horizon, wanted.title);
     if (number !== this.number) return;
+    clearTimeout(this.patience);
     this.since = 0;
     // What was typed meanwhile is asked for before this answer is drawn.
     if (this.waiting) this.send();
     this.show(told, wanted);
   }
+  // No answer to what was asked for is wanted any more.
+  forget() { this.number++; this.since = 0; this.waiting = null; clearTimeout(this.clock); clearTimeout(this.patience); }
 }

@@ -29,7 +29,9 @@ function tell(value) {
 }
 export function bounds() {
   const least = Number(element("least").value), most = Number(element("most").value);
-  if (Number.isSafeInteger(least) && Number.isSafeInteger(most) && least < most) Object.assign(element("value"), { min: least, max: most });
+  // Between other bounds, as those of a bound that is half written, the slider stands at its end: then it goes back to the number.
+  if (Number.isSafeInteger(least) && Number.isSafeInteger(most) && 0 <= least && least < most)
+    Object.assign(element("value"), { min: least, max: most, value: element("number").textContent });
 }
 // Where the line of the number stands behind a change of the script; -1 where it is there no more.
 function lineIn(lines) {

@@ -1,6 +1,7 @@
 """The page in a real browser: typing, the picture, the lists, refusals, the slider, a phone."""
 from __future__ import annotations
 
+import time
 from urllib.parse import quote
 
 from .in_browser import INHERIT, InBrowser
@@ -78,6 +79,40 @@ class Page(InBrowser):
         self.until("return document.querySelectorAll('#faults li').length", 0)
         self.assertFalse(self.does("return document.body.classList.contains('stale')"))
 
+    def test_a_horizon_that_is_none(self) -> None:
+        """The picture is pale until it is one, whatever is under way or asked for meanwhile."""
+        none = "The horizon is a number of ticks from 0 to 10^18."
+        put = "const horizon = document.getElementById('horizon'); for (const text of arguments) { horizon.value = text; horizon.dispatchEvent(new Event('input')); }"
+        self.open("#example=20_controller")
+        self.does("document.getElementById('beside').click()")
+        self.until("return document.getElementById('differs').textContent", "The runs do not differ.")
+        self.does(put, "2000", "2000x")
+        self.until("return performance.getEntriesByType('resource').some((entry) => entry.name.includes('horizon=2000&'))")
+        time.sleep(0.3)
+        self.assertEqual(self.text("#state"), none)
+        self.assertTrue(self.does("return document.body.classList.contains('stale')"))
+        self.does(put, "")
+        self.does("const menu = document.getElementById('export'); menu.value = 'trace'; menu.dispatchEvent(new Event('change'))")
+        self.assertEqual(self.text("#state"), none)
+        self.does(put, "30")
+        self.until("return document.getElementById('a').contentWindow.pane.data().ticks.at(-1)", "30")
+        self.assertEqual(self.text("#state"), "")
+        self.assertFalse(self.does("return document.body.classList.contains('stale')"))
+
+    def test_the_word_of_a_tab(self) -> None:
+        """It stays where the page is loaded again, and a copy of the tab has another."""
+        def word() -> str:
+            self.until("return window.lab && lab.drawn !== '' && document.readyState === 'complete'")
+            return str(self.does("return performance.getEntriesByType('resource').map((entry) => /tab=([^&]*)/.exec(entry.name)).find(Boolean)[1]"))
+
+        self.open("#example=05_inherit")
+        mine, first = word(), self.driver.current_window_handle
+        self.driver.refresh()
+        self.assertEqual(word(), mine)
+        self.does("window.open(location.href)")
+        self.driver.switch_to.window(next(tab for tab in self.driver.window_handles if tab != first))
+        self.assertNotEqual(word(), mine)
+
     def test_the_slider(self) -> None:
         from selenium.webdriver.common.keys import Keys
 
@@ -111,6 +146,22 @@ class Page(InBrowser):
         self.assertEqual(self.does("return ['value', 'most'].map((name) => document.getElementById(name).value)"), ["40", "40"])
         self.write_at_once(self.script().replace("    run 40\n", ""))
         self.assertTrue(self.does("return document.getElementById('slider').hidden"))
+
+    def test_the_bounds_of_the_slider(self) -> None:
+        """Digit by digit a bound is less than the number, which stays; a number below 0 is no bound."""
+        from selenium.webdriver.common.keys import Keys
+
+        self.open("#example=04_inversion")
+        self.does("document.querySelector('.CodeMirror')?.CodeMirror.setCursor(arguments[0], 8); const area = document.querySelector('#plain textarea');"
+                  "if (area) { const at = area.value.indexOf('run 9') + 4; area.setSelectionRange(at, at); }", self.script().splitlines().index("    run 9"))
+        self.does("document.getElementById('sweep').click(); document.getElementById('most').select()")
+        self.driver.find_element("id", "most").send_keys("100")
+        self.does("document.getElementById('least').select()")
+        self.driver.find_element("id", "least").send_keys("-3")
+        self.does("document.getElementById('value').focus()")
+        self.press(Keys.ARROW_RIGHT)
+        self.assertIn("    run 10\n", self.script())
+        self.assertEqual(self.does("return ['min', 'max'].map((name) => document.getElementById('value')[name])"), ["0", "100"])
 
     def test_keys_in_the_fields(self) -> None:
         """Escape leads from each field to the picture, and the keys of the page go on where the slider has the focus."""
@@ -150,6 +201,13 @@ class Page(InBrowser):
 
 class PlainPage(Page):
     words = ("--plain",)
+
+    def test_the_numbers_stand_beside_their_lines(self) -> None:
+        """At the end of a long script too, where the text has a scroll bar below it and the numbers have none."""
+        self.open("#script=" + quote("# " + "long " * 60 + "\nthread a fifo 5 at 0\n" + "run 1\n" * 80 + "end\n"))
+        self.does("const area = document.querySelector('#plain textarea'); area.scrollTop = area.scrollHeight")
+        self.until("const area = document.querySelector('#plain textarea'); return area.scrollTop > 0 && area.scrollTop === document.querySelector('#plain pre').scrollTop",
+                   seconds=3)
 
 
 class Phone(InBrowser):

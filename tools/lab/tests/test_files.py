@@ -18,9 +18,10 @@ class Files(InBrowser):
         self.driver.execute_cdp_cmd("Browser.setDownloadBehavior", {"behavior": "allow", "downloadPath": str(self.folder)})
 
     def had(self, name: str) -> str:
+        """What was saved under the name: chromium makes an empty file first, and renames the whole one to it."""
         for _ in range(400):
-            if (self.folder / name).exists():
-                return (self.folder / name).read_text()
+            if (self.folder / name).exists() and (text := (self.folder / name).read_text()):
+                return text
             time.sleep(0.05)
         raise AssertionError(f"{name} was not saved: {list(self.folder.iterdir())}")
 
@@ -55,3 +56,10 @@ class Files(InBrowser):
         self.assertEqual(self.does("return document.getElementById('horizon').value"), "28")
         self.does("document.getElementById('save').click()")
         self.assertIn("quantum 4", self.had("03_round_robin.task"))
+
+    def test_an_export_without_a_server(self) -> None:
+        self.open("#example=05_inherit")
+        self.lab.end()
+        self.does("const menu = document.getElementById('export'); menu.value = 'trace'; menu.dispatchEvent(new Event('change'))")
+        self.until("return document.getElementById('state').textContent", "the server does not answer: start bin/pse52-lab again, and give it this link")
+        self.assertEqual([entry["source"] for entry in self.driver.get_log("browser")], ["network"])

@@ -28,6 +28,10 @@ class Gallery(unittest.TestCase):
             script.write_text("# für\nthread a fifo 5 at 0\nend\n", encoding="utf-8")
             self.assertTrue(fragment_of(str(script)).startswith("#script=%23%20f%C3%BCr%0A"))
 
+    def test_an_address_without_a_script_is_no_file(self) -> None:
+        with self.assertRaisesRegex(OSError, "the link has no #"):
+            fragment_of("http://127.0.0.1:8000/abc/")
+
     def test_a_script_that_is_too_long_is_not_cut(self) -> None:
         with tempfile.TemporaryDirectory() as folder:
             script = Path(folder, "long.task")

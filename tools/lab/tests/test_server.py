@@ -3,6 +3,7 @@ from __future__ import annotations
 
 import json
 import os
+import socket
 import subprocess
 import sys
 import tempfile
@@ -10,11 +11,14 @@ import threading
 import time
 import unittest
 from pathlib import Path
+from unittest import mock
 
 TOOLS = Path(__file__).resolve().parents[2]
 sys.path.append(str(TOOLS / "reference"))
 
+from lab.desk import Desk  # noqa: E402
 from lab.runs import NoRun, Sources, answer, run, trace_of  # noqa: E402
+from lab.server import Lab  # noqa: E402
 
 from .served import TOP, Served, alive  # noqa: E402
 
@@ -127,6 +131,13 @@ class Server(unittest.TestCase):
         self.assertEqual(["4 exit a" in json.loads(answer)["text"] for answer in answers], [True] * 16)
         self.assertLessEqual(len(self.lab.children), 6)
 
+    def test_connections_that_come_at_once_are_kept(self) -> None:
+        """Sixteen come before the server takes one: none is lost."""
+        lab = Lab(0, "token", {}, Desk(4))
+        self.addCleanup(lab.server_close)
+        for _ in range(16):
+            self.addCleanup(socket.create_connection(("127.0.0.1", lab.server_port), timeout=5).close)
+
     def test_what_is_refused(self) -> None:
         _, text, _ = self.lab.run(b"thread a fifo 5 at 0\n    rum 3\nend\n")
         fault = json.loads(text)["faults"][0]
@@ -159,7 +170,7 @@ class Server(unittest.TestCase):
             ended = subprocess.run([sys.executable, str(TOP / "bin" / "pse52-lab"), f"--seconds={word}"], capture_output=True, text=True,
                                    timeout=60, check=False)
             self.assertEqual((ended.returncode, ended.stdout), (1, ""), ended.stderr)
-            self.assertIn(word, ended.stderr)
+            self.assertIn(f"'{word}' gives no run the time to end", ended.stderr)
 
     def test_a_second_signal_does_not_disturb_the_end(self) -> None:
         """As of a Ctrl-C that is pressed twice."""
@@ -181,6 +192,10 @@ class Program(unittest.TestCase):
         file = Path(self.enterContext(tempfile.TemporaryDirectory())) / "pse52"
         file.write_text(text)
         return ["sh", str(file)]
+
+    def test_a_detail_of_more_lines_than_are_read(self) -> None:
+        with mock.patch("view.lines.MOST_LINES", 3):
+            self.assertEqual(answer(SCRIPT, 20, "picture", "", Sources(None)), {"why": "the run has more than 3 lines, and no more are read; take a nearer horizon"})
 
     def test_a_program_of_another_version(self) -> None:
         """It refuses what has no fault: the reference makes the trace, and the page says so."""

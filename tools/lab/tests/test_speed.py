@@ -42,18 +42,15 @@ class Speed(InBrowser):
         return took
 
     def judge(self, what: str, figures: dict[str, list[float]]) -> None:
-        """All figures are below PICTURE in the middle; where other work has half of the processors too, what the page itself takes is seen of the quickest."""
-        load, processors = os.getloadavg()[0], os.cpu_count() or 1
+        """What the page itself takes is seen of the quickest, since other work and a slow host delay the others: these are only told."""
+        load = os.getloadavg()[0]
         middle, least = (max(figures, key=lambda name: of(figures[name])) for of in (median, min))
         print(f"{what}, {len(figures)} examples: at most {median(figures[middle]):.0f} ms in the middle ({middle}), "
               f"{min(figures[least]):.0f} ms at the quickest ({least}); load {load:.1f}")
         if "PSE52_SHOTS" in os.environ:
             rows = [f"{name:24} middle {median(took):5.0f} ms, least {min(took):5.0f}, greatest {max(took):5.0f}\n" for name, took in figures.items()]
             (Path(os.environ["PSE52_SHOTS"]) / f"{self.id().rpartition('.')[2]}.txt").write_text(f"{what}; load {load:.1f}\n" + "".join(rows))
-        if median(figures[middle]) >= PICTURE and load > 1.5 * processors:
-            print(f"skipped: {what}, since other work has the processors, load {load:.0f}")
-            self.skipTest("the machine is busy")
-        self.assertLess(min(figures[least]) if load > processors / 2 else median(figures[middle]), PICTURE)
+        self.assertLess(min(figures[least]), PICTURE)
 
     def test_from_the_last_key_to_the_picture(self) -> None:
         self.open()
@@ -108,6 +105,5 @@ class Speed(InBrowser):
         self.shot("long_zoomed")
         figures = {name: median(took) for name, took in frames.items()}
         least = {name: min(took) for name, took in frames.items()}
-        busy = os.getloadavg()[0] > (os.cpu_count() or 1)
         print(f"a frame of {threads} threads and {lines} lines: " + ", ".join(f"{name} {figure:.0f} ms (least {least[name]:.0f})" for name, figure in figures.items()))
-        self.assertLess(max((least if busy else figures).values()), FRAME)
+        self.assertLess(max(least.values()), FRAME)

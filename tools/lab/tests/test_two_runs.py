@@ -1,6 +1,8 @@
 """Two runs beside one another in a real browser, and a link that holds both."""
 from __future__ import annotations
 
+import time
+
 from .in_browser import InBrowser
 from .served import Served
 
@@ -56,6 +58,13 @@ class TwoRuns(InBrowser):
         self.open("#example=04_inversion&beside=rum")
         self.until("return document.getElementById('differs').textContent", "The kept script is refused.")
 
+    def test_the_kept_run_is_let_go_before_it_comes(self) -> None:
+        self.open("#example=20_controller&horizon=2000")
+        self.does("for (let press = 0; press < 2; press++) document.getElementById('beside').click()")
+        self.until("return performance.getEntriesByType('resource').some((entry) => entry.name.includes('pane=b'))")
+        time.sleep(0.3)
+        self.assertEqual(self.text("#differs"), "")
+
     def test_a_line_more_and_a_word_changed(self) -> None:
         """The line that is new is told as such, and of the changed one the word alone is marked."""
         self.open("#example=25_budget_in_a_window")
@@ -67,6 +76,16 @@ class TwoRuns(InBrowser):
             self.assertEqual(self.does("return [...document.querySelectorAll('.CodeMirror .changed')].map((word) => word.textContent)"), ["version", "2", "strict"])
         self.does("document.getElementById('a').contentWindow.pane.goTo(7n)")
         self.assertEqual([self.table("Budgets", frame) for frame in "ab"], [["server | capacity 3"]] * 2)
+
+    def test_each_picture_keeps_to_its_frame(self) -> None:
+        """On a wide screen, as on a narrow one: the lists stay in sight below the picture."""
+        for wide in (1000, 1400, 1920):
+            self.driver.execute_cdp_cmd("Emulation.setDeviceMetricsOverride", {"width": wide, "height": 1080, "deviceScaleFactor": 1, "mobile": False})
+            self.open("#example=20_controller&cursor=40")
+            self.assertEqual(self.in_frame("document.documentElement.scrollHeight - innerHeight", "a"), 0, wide)
+            self.does("document.getElementById('beside').click()")
+            self.until("return document.getElementById('differs').textContent", "The runs do not differ.")
+            self.assertEqual([self.in_frame("document.documentElement.scrollHeight - innerHeight", frame) for frame in "ab"], [0, 0], wide)
 
     def test_a_run_that_is_shorter(self) -> None:
         """The kept run is killed at 32: the cursor goes on in the other one."""

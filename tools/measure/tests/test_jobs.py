@@ -87,9 +87,10 @@ class JobsByHand(unittest.TestCase):
     def test_only_signals_of_timers_are_lost(self) -> None:
         """The releases are 10, 20, 30 and 40. At 45 w takes a signal for 30, and 40 has passed: one was lost, where a timer sent them.
 
-        A thread that sleeps up to its releases does not wait for that timer.
+        A thread that sleeps up to its releases does not wait for that timer; that another one sleeps says nothing.
         """
-        for code, sleep, lost in (("TIMER", "", 45), ("QUEUE", "", None), ("TIMER", "5 return w clock_nanosleep 0 0\n", None)):
+        for code, sleep, lost in (("TIMER", "", 45), ("QUEUE", "", None), ("TIMER", "5 return w clock_nanosleep 0 0\n", None),
+                                  ("TIMER", "5 return u clock_nanosleep 0 0\n", 45), ("TIMER", "5 return w nanosleep 0 0\n", 45)):
             trace = seen(SIGNALS.format(code=code, sleep=sleep))
             self.assertEqual(behind_a_lost_signal(trace, "w", 10, 10, "return w gettime"), lost, (code, sleep))
         self.assertIsNone(behind_a_lost_signal(seen(SIGNALS.format(code="TIMER", sleep="")), "w", 15, 15, "return w gettime"))

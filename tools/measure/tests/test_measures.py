@@ -5,7 +5,7 @@ import unittest
 from pathlib import Path
 
 from measure.jobs import NamesNothing
-from measure.measures import WrongMeasure, jobs_of, lost_signal, measure_of, measure_of_words, never_done, without_places
+from measure.measures import WrongMeasure, jobs_of, lost_signal, measure_of, measure_of_words, measures_in, never_done, without_places
 from measure.seen import Seen
 from view.lines import Trace, read_trace
 from view.tests.details import detail_of, trace_of
@@ -121,6 +121,9 @@ class Measures(unittest.TestCase):
         self.assertEqual(measure_of(response).columns, ("m_jobs", "m_least", "m_mean", "m_greatest", "m_jitter", "m_open"))
         self.assertEqual([measure_of(table).needs_detail for table in (periodic, {**periodic, "to": "return t yield"}, response)],
                          [True, False, False])
+        of_a_thread = ("ticks", "utilisation", "high_share", "capacity", "exhausted", "refill_wait", "lock", "blocked", "preempted")
+        self.assertEqual([kind for kind in of_a_thread if measure_of({"name": "m", "kind": kind, "thread": "t"}).needs_detail],
+                         ["refill_wait", "blocked", "preempted"])
 
     def test_nothing_to_measure(self) -> None:
         for table in ({"kind": "ticks", "thread": "nobody"}, {"kind": "high_share", "thread": "mon"}, {"kind": "exhausted", "thread": "mon"},
@@ -248,6 +251,14 @@ class Measures(unittest.TestCase):
             with self.assertRaisesRegex(WrongMeasure, "needs period= of a periodic thread, or from=", msg=said):
                 measure_of_words(said)
 
+    def test_a_word_that_is_said_twice(self) -> None:
+        with self.assertRaisesRegex(WrongMeasure, "--jobs has 'thread=' twice"):
+            measure_of_words("thread=t thread=u period=5")
+
+    def test_a_call_ends_a_job_of_a_periodic_thread_alone(self) -> None:
+        with self.assertRaisesRegex(WrongMeasure, "'call sem_wait' may end a job of a periodic thread alone, which has period="):
+            measure_of_words('thread=a from="return b sem_post" to="call sem_wait"')
+
     def test_tables_that_say_no_measure(self) -> None:
         for table in ({}, {"name": "a b"}, {"name": "a"}, {"name": "a", "kind": "speed"}, {"name": "a", "kind": "ticks"},
                       {"name": "a", "kind": "ticks", "thread": 5}, {"name": "a", "kind": "ticks", "thread": "t", "deadline": 1},
@@ -258,9 +269,19 @@ class Measures(unittest.TestCase):
                       {"name": "a", "kind": "response", "from": "deliver t rt32", "to": "exit t"},
                       {"name": "a", "kind": "periodic", "thread": "t"}, {"name": "a", "kind": "periodic", "thread": "t", "period": 0},
                       {"name": "a", "kind": "periodic", "thread": "t", "period": 5, "to": "call gettim"},
-                      {"name": "a", "kind": "periodic", "thread": "t", "period": 5, "percentiles": [0]}):
+                      {"name": "a", "kind": "periodic", "thread": "t", "period": 5, "percentiles": [0]},
+                      {"name": "a", "kind": "periodic", "thread": "t", "period": 5, "percentiles": [True]},
+                      {"name": "a", "kind": ["ticks"], "thread": "t"}):
             with self.assertRaises(WrongMeasure, msg=table):
                 measure_of(table)
+        for tables in (5, "ticks", {"name": "a", "kind": "ticks", "thread": "t"}, ["ticks"]):
+            with self.assertRaisesRegex(WrongMeasure, "stands in tables", msg=tables):
+                measures_in(tables)
+
+    def test_words_of_another_kind(self) -> None:
+        for said in ("thread=t kind=ticks", "kind=lock", "thread=t kind=7"):
+            with self.assertRaisesRegex(WrongMeasure, "--jobs is of kind periodic or response", msg=said):
+                measure_of_words(said)
 
 
 if __name__ == "__main__":

@@ -25,6 +25,13 @@ class TablesByHand(unittest.TestCase):
         self.assertEqual(as_csv([table]).splitlines()[1:3] + as_csv([table]).splitlines()[20:22],
                          ["jobs,t,,jobs,5", "jobs,t,,least,2", "jobs,u,,deadline,", "jobs,u,,late,"])
 
+    def test_percentiles_of_many_jobs(self) -> None:
+        """Response times of 1 to 150 ticks: 75 of 150 are at most 75, 135 at most 135, and 149, which is more than 99 of 100, at most 149."""
+        lines = [f"{1000 * job + job + 1} return t gettime 0 {1000 * job + job + 1}" for job in range(150)]
+        seen = read("\n".join(["0 start t", "0 dispatch t 5", *lines, "149900 end", "thread t ticks 149900\n"]))
+        table = jobs_table(seen, [measure_of_words('thread=t period=1000 to="return t gettime"')])
+        self.assertEqual(table.rows, [["t", "150", "1", "75.500", "75", "135", "149", "150", "149", "1000", "0", "0"]])
+
     def test_threads(self) -> None:
         """a runs for 1 + 2 + 2 ticks and waits for 4 + 6 + 15; b runs for 4 + 6 + 11, is ready in the 5 of a, and loses the processor twice."""
         self.assertEqual(threads_table(detail(POSTS, 30)).rows, [["a", "5", "16.7%", "0", "25", "0", "0"], ["b", "21", "70.0%", "5", "0", "2", "0"]])

@@ -17,6 +17,9 @@ POSTS = ("sem s 0\nthread a fifo 9 at 0\nsem_wait s\nrun 1\nsem_wait s\nrun 1\ns
 # a waits for the condition from 2 on; b has the mutex from 4 on, signals in the tick that ends at 5, and unlocks in the one that ends at 9.
 CONDITION = ("mutex m none\ncond c\nthread a fifo 9 at 0\nlock m\nwait c m\nunlock m\nend\n"
              "thread b fifo 5 at 3\nlock m\nsignal c\nrun 3\nunlock m\nrun 5\nend\n")
+# b gives a another priority in the tick that ends at 11.
+RAISED = ("mutex m inherit\nthread a fifo 5 at 0\nnanosleep 4\nlock m\nrun 1\nend\nthread o fifo 3 at 0\nlock m\nrun 19\nunlock m\nend\n"
+          "thread b fifo 9 at 10\nsetprio a 7\nend\n")
 # Two of one priority with slices of 4, and one above them.
 TURNS = ("quantum 4\nthread a rr 5 at 0\nrun 2\nyield\nrun 20\nend\nthread b rr 5 at 0\nrun 20\nend\nthread c fifo 9 at 1\nrun 2\nend\n")
 # s gets new parameters under its server: three ticks at high priority before, and two behind.
@@ -30,6 +33,13 @@ ANEW = """\
 {behind}12 end
 thread s ticks 12{closing}
 """
+
+# Four ticks up to the wait, five of a run, and the end.
+WAITS_FOR_NO_TIME = ("timer k rt1 7\nthread s sporadic 9 5 20 {server} at 0\n"
+                     "sigmask block rt1\ntimer_settime k abs 4 0\nrun 1\nsigwaitinfo rt1\nrun 5\nend\n")
+# b gives s another policy: no line tells that the server of s is gone.
+SILENT = ("thread s sporadic 20 2 40 4 4 at 0\nrun 60\nend\n"
+          "thread b fifo 30 at {start}\nsetsched s fifo 15\nend\n")
 
 
 def read(text: bytes) -> Seen:
@@ -53,6 +63,13 @@ class WaitsByHand(unittest.TestCase):
             self.assertEqual(waits_table(seen).rows, [["a", "sem_wait", "s", str(times), str(ticks), str(longest), str(int(is_open))]])
             self.assertEqual(figures(seen, kind="blocked", thread="a"), [str(times), str(ticks), str(longest)])
             self.assertEqual(figures(seen, kind="blocked", thread="a", on="t"), ["0", "0", ""])
+
+    def test_a_priority_that_changes_in_a_wait(self) -> None:
+        """a waits for m from 6 on, o owns it from 2 to 25, with b in between for 2 ticks: one wait, though a has another priority from 11 on."""
+        for horizon, ticks, is_open in ((60, 19, False), (20, 14, True)):
+            seen = detail(RAISED, horizon)
+            self.assertEqual(waits_of(seen, "a")[1:], [Waits("lock", "m", 1, ticks, ticks, is_open)], horizon)
+            self.assertEqual(figures(seen, kind="blocked", thread="a", call="lock"), ["1", str(ticks), str(ticks)])
 
     def test_a_condition_and_its_mutex(self) -> None:
         """a waits for c from 2 to 5 and for m up to 9: two rows, and one call."""
@@ -103,7 +120,33 @@ class ServersByHand(unittest.TestCase):
         with self.assertRaises(NamesNothing):
             figures(seen, kind="high_share", thread="s")
         self.assertEqual(figures(seen, kind="capacity", thread="s"), ["", ""])
-        self.assertEqual(servers_table(seen).rows, [["s", "", "", "", "1", "9", "9"]])
+        with self.assertRaises(NamesNothing):
+            figures(seen, kind="refill_wait", thread="s")
+        self.assertEqual(servers_table(seen).rows, [["s", "", "", "", "1", "", ""]])
+
+    def test_a_trace_that_breaks_off_behind_the_call(self) -> None:
+        text = ANEW.format(behind="", closing="", result="0").partition("12 end")[0]
+        with self.assertRaises(NamesNothing):
+            figures(read(text.encode()), kind="refill_wait", thread="s")
+
+    def test_a_wait_for_a_refill_ends_with_the_server(self) -> None:
+        """s has used its 4 at 4. The call of b takes its server at 11, or comes at 41, behind the refill at 40 of which a trace tells too."""
+        for start, waits in ((10, "7"), (40, "36")):
+            script = SILENT.format(start=start)
+            self.assertEqual(figures(detail(script, 60), kind="refill_wait", thread="s"), [waits, waits])
+            self.assertEqual(servers_table(detail(script, 60)).rows[0][4:], ["1", waits, waits])
+        self.assertEqual(figures(read(trace_of(script.encode(), 60)), kind="refill_wait", thread="s"), ["36", "36"])
+        with self.assertRaises(NamesNothing):
+            figures(read(trace_of(SILENT.format(start=10).encode(), 60)), kind="refill_wait", thread="s")
+
+    def test_a_server_that_waits_for_no_time(self) -> None:
+        """s waits from 4 on, and the timer ends that at 4, so it goes on without a dispatch: at its low priority with no capacity left
+        or no room for one more replenishment, and else at its high one up to 8. It ends at 10."""
+        for server, used in (("4 4", 4), ("8 1", 4), ("8 2", 8)):
+            script = WAITS_FOR_NO_TIME.format(server=server)
+            for seen in (detail(script, 20), read(trace_of(script.encode(), 20))):
+                self.assertEqual(figures(seen, kind="capacity", thread="s"), [str(used), ""], server)
+                self.assertEqual(figures(seen, kind="high_share", thread="s"), [f"0.{used}00"], server)
 
     def test_a_call_that_failed_changes_nothing(self) -> None:
         seen = self.changed("", " high 3 init 3 refilled 0 capacity 0", "EINVAL")

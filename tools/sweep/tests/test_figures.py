@@ -7,8 +7,8 @@ from types import SimpleNamespace
 
 from measure.measures import measure_of
 from sweep.groups import columns_of, grouped
-from sweep.main import over_of
-from sweep.plan import WrongSweep
+from sweep.main import TOP, over_of, program_of
+from sweep.plan import Sweep, WrongSweep
 from sweep.plot import greatest_at, script
 from sweep.unfinished import hidden
 
@@ -57,6 +57,20 @@ class Together(unittest.TestCase):
         self.assertEqual(list(hidden(sweep({"d": [20, 30]}, JOBS), table[3:5])), [])
 
 
+class Asked(unittest.TestCase):
+    def test_one_measure_that_needs_a_detail_is_enough(self) -> None:
+        ticks, blocked = ({"name": kind, "kind": kind, "thread": "t"} for kind in ("ticks", "blocked"))
+        for tables, command in (([ticks], "run"), ([blocked], "detail"), ([ticks, blocked], "detail"), ([blocked, ticks], "detail"), ([], "run")):
+            self.assertEqual(Sweep(Path(), "s", "", 9, {"n": [1]}, list(map(measure_of, tables))).command, command, tables)
+
+
+    def test_the_wrapper_stands_for_its_program(self) -> None:
+        """Else the rows of an older release would be kept: the wrapper is the same file."""
+        for said in (f"{TOP}/bin/pse52 --released", f"'{TOP}/tools/../bin/pse52' --released"):
+            self.assertEqual(program_of(said), [str(TOP / "release" / "pse52")])
+        self.assertEqual(program_of("cat -u"), ["cat", "-u"])
+
+
 class Drawn(unittest.TestCase):
     def test_the_greatest_of_a_point_wherever_it_stands(self) -> None:
         for order in (["1 5", "1 7.500", "1 6"], ["1 7.500", "1 5", "1 6"], ["1 6", "1 5", "1 7.500"]):
@@ -87,7 +101,7 @@ class Drawn(unittest.TestCase):
                                ({"a": [1, 2], "b": [1, 2]}, ["a", "b"]), ({"a": [1], "b": [7, 8]}, ["b"]), ({"a": [1], "b": [2]}, ["a"])):
             self.assertEqual(over_of(sweep(values), None), wanted)
         self.assertEqual(over_of(sweep({"a": [1], "b": [1, 2]}), "a,b"), ["a", "b"])
-        for said in ("c", "a,b,a"):
+        for said in ("c", "a,b,a", "b,b"):
             with self.assertRaises(WrongSweep):
                 over_of(sweep({"a": [1], "b": [1, 2]}), said)
 

@@ -164,8 +164,20 @@ function isCrowded(list) {
 }
 const firstFrom = (list) => list.length ? lastAtMost(list.length, (i) => places[list[i][0]], left) : 0;
 const isDense = (thread) => isCrowded(thread.spans);
+// The widest part of a stretch that no cut covers.
+function clearOfCuts(start, stop) {
+  let from = start, best = [start, start];
+  for (const point of data.cuts) {
+    const x = xOf(places[point]), end = xOf(places[point + 1]);
+    if (x >= stop) break;
+    if (x - from > best[1] - best[0]) best = [from, x];
+    from = Math.max(from, end);
+  }
+  return stop - from > best[1] - best[0] ? [from, stop] : best;
+}
 function label(texts, x, end, y, size, colour) {
-  const start = Math.max(x, gutter), stop = Math.min(end, width);
+  if (Math.min(end, width) - Math.max(x, gutter) < size) return false;
+  const [start, stop] = clearOfCuts(Math.max(x, gutter), Math.min(end, width));
   const text = texts.find((said) => said && stop - start > said.length * size * 0.62 + 4);
   if (text) write(text, (start + stop) / 2, y, size, colour, "center");
   return Boolean(text);

@@ -72,7 +72,9 @@ function lift(pointer) {
   if (down.size || moved || pointer.type === "pointercancel") return;
   const tick = tickAt(Math.max(0, Math.min(total, placeOf(pointer.offsetX)))).tick;
   if (pointer.shiftKey) { second = tick; tell(); draw(); return; }
-  held = pointer.pointerType === "mouse" ? !held : true;
+  // A click where the cursor is held lets it go, and one elsewhere holds it there.
+  const there = tick === tickAt(place).tick || Math.abs(pointer.offsetX - xOf(place)) <= 3;
+  held = !(held && there && pointer.pointerType === "mouse");
   point(pointer.offsetX);
 }
 canvas.addEventListener("pointerup", lift);

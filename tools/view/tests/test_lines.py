@@ -189,6 +189,20 @@ class Command(unittest.TestCase):
         self.assertIn("the text is empty", view(["text", "--horizon", "9"], b"").stderr.decode())
         self.assertIn("more than 1048576 bytes; shorten it", view([*words, "--horizon", "9"], b"#" * 1_048_577).stderr.decode())
 
+    def test_the_input_of_an_audit_is_no_script(self) -> None:
+        ftrace = TOP / "tools" / "ftrace" / "tests"
+        converter = [sys.executable, str(TOP / "bin" / "pse52-from-ftrace"), str(ftrace / "server.map")]
+        log = (ftrace / "server.log").read_bytes()
+        audited, trace = (subprocess.run([*converter, *more], input=log, capture_output=True, check=True).stdout for more in ([], ["--trace"]))
+        for words in (["text"], ["text", "--horizon", "9"]):
+            told = view(words, audited)
+            self.assertEqual((told.returncode, told.stdout), (2, b""))
+            self.assertIn("a line is %%, so this is the input of audit or check", told.stderr.decode())
+            self.assertIn("'pse52-from-ftrace --trace MAP < LOG', or by: sed '1,/^%%$/d' FILE", told.stderr.decode())
+        cut = subprocess.run(["sed", "1,/^%%$/d"], input=audited, capture_output=True, check=True).stdout
+        self.assertEqual(cut, trace)
+        self.assertEqual(view(["text"], trace).returncode, 0)
+
     def test_through_links_from_anywhere(self) -> None:
         with tempfile.TemporaryDirectory(suffix=" with blanks") as folder:
             for name in ("pse52-view", "pse52-measure", "pse52-sweep"):
@@ -249,6 +263,14 @@ class Command(unittest.TestCase):
                         os.environ, LC_ALL=locale, PYTHONUTF8="0", PYTHONCOERCECLOCALE="0"))
                     self.assertEqual((ended.returncode, ended.stdout.decode()[:9]), (0, f"{title}: ticks "), ended.stderr)
 
+    def test_each_format_in_a_locale_of_ascii(self) -> None:
+        for form in FORMATS:
+            ended = subprocess.run([sys.executable, str(VIEW), form], input=b"0 start a\n0 dispatch a 5\n2 exit a\n2 end\n", capture_output=True,
+                                   check=False, env=dict(os.environ, LC_ALL="C", PYTHONUTF8="0", PYTHONCOERCECLOCALE="0"))
+            self.assertEqual((ended.returncode, ended.stderr), (0, b""), form)
+            if form == "html":
+                self.assertIn((TOP / "tools/view/page/draw.js").read_bytes(), ended.stdout)
+
     def test_it_says_how_far_it_is_on_a_terminal(self) -> None:
         trace = b"0 start a\n" + b"0 return a yield 0 0\n" * 45_000 + b"0 end\n"
         ours, theirs = pty.openpty()
@@ -261,6 +283,21 @@ class Command(unittest.TestCase):
         self.assertIn(b"20000 lines read", said)
         self.assertIn(b"40000 lines read", said)
         self.assertEqual(view(["text"], trace).stderr, b"")
+
+    def test_how_far_it_is_in_a_file_beside_a_standard_input(self) -> None:
+        """All lines but the first and the last have the same length, so that 20000 of 40002 lines are half of the file."""
+        with tempfile.TemporaryDirectory() as folder:
+            trace, other = Path(folder, "trace"), Path(folder, "other")
+            trace.write_bytes(b"0 start a\n" + b"0 return a yield 0 0\n" * 40_000 + b"0 end\n")
+            other.write_bytes(b"x\n")
+            ours, theirs = pty.openpty()
+            with open(theirs, "wb") as terminal, other.open("rb") as source:
+                subprocess.run([sys.executable, str(VIEW), "text", str(trace)], stdin=source, stdout=subprocess.PIPE, stderr=terminal,
+                               env=dict(os.environ, TERM="xterm"), check=True)
+            said = os.read(ours, 4096)
+            os.close(ours)
+        self.assertIn(b"20000 lines read, 49 %", said)
+        self.assertIn(b"40000 lines read, 99 %", said)
 
 
 if __name__ == "__main__":

@@ -102,12 +102,12 @@ class Placed(unittest.TestCase):
         for count, label, title in ((1, [("EAGAIN", 156)], lines[0]), (2, [], "\n".join(lines[:2])), (6, [], "\n".join(lines[:6])),
                                     (8, [], "\n".join([*lines[:6], "and 2 more, up to tick 5"]))):
             out = Writer()
-            draw_marks(out, self.placed([Mark(5, MarkKind.ERROR, "EAGAIN", at) for at in range(count)]), lines, 50, 20, 4, 234)
+            draw_marks(out, self.placed([Mark(5, MarkKind.ERROR, "EAGAIN", at) for at in range(count)]), lines, 50, 4, 234)
             self.assertEqual((titles(read(out), "mark error"), texts(read(out))), ([title], label))
 
     def test_a_label_at_the_right_edge_stands_before_its_mark(self) -> None:
         out = Writer()
-        draw_marks(out, self.placed([Mark(13, MarkKind.ERROR, "EAGAIN", 0)]), ["13 return t lock EAGAIN 0"], 50, 20, 4, 234)
+        draw_marks(out, self.placed([Mark(13, MarkKind.ERROR, "EAGAIN", 0)]), ["13 return t lock EAGAIN 0"], 50, 4, 234)
         self.assertEqual(texts(read(out)), [("EAGAIN", 224)])
         self.assertEqual(next(read(out).iter(f"{SVG}text")).get("text-anchor"), "end")
 

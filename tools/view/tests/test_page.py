@@ -134,6 +134,21 @@ class Page(unittest.TestCase):
             draw(); write = plain; return said.filter(([text]) => text === "EAGAIN").map((words) => words[5]); })()""")
         self.assertEqual(sides, ["right"])
 
+    def test_a_label_stands_beside_a_cut(self) -> None:
+        """The cut is in the middle of the sleep, and would cover its label."""
+        script = "thread a fifo 5 at 0\nrun 3\nnanosleep 3000\nrun 2\nend\n"
+        self.open(drawer("html")(timeline_of(read_trace(detail_of(script.encode(), 3010).splitlines(keepends=True)))))
+        places = self.does("""(() => { const said = [], plain = write; write = (...words) => { said.push(words); plain(...words); };
+            draw(); write = plain; return said.filter(([text]) => text === "sleep").map((words) => words[1]); })()""")
+        self.assertEqual(len(places), 1)
+        self.assertEqual(self.does(f"data.cuts.filter((point) => xOf(places[point]) <= {places[0]} && {places[0]} <= xOf(places[point + 1]))"), [])
+
+    def test_a_title_that_is_a_place_of_the_page(self) -> None:
+        run = timeline(CONTROLLER)
+        run.title = "@DATA@ @SCRIPT@"
+        self.open(drawer("html")(run))
+        self.assertIn("@DATA@ @SCRIPT@", self.does("document.getElementById('title').textContent"))
+
     def test_who_is_joined(self) -> None:
         script = "thread a fifo 5 at 0\njoin b\nend\nthread b fifo 4 at 0\nrun 3\nend\n"
         self.open(drawer("html")(timeline_of(read_trace(detail_of(script.encode(), 9).splitlines(keepends=True)))))
@@ -154,6 +169,16 @@ class Page(unittest.TestCase):
         self.assertEqual(self.does('document.getElementById("distance").textContent'), "")
         self.does('key("+")'), self.does('key("0")')
         self.assertEqual(self.does("over(5)")[:2], "5 ")  # Zooming does not hold it.
+
+    def test_a_click_where_the_cursor_is_not_held(self) -> None:
+        """It is held there then, whatever held it before, and a second click there lets it go."""
+        self.open(drawer("html")(timeline(CONTROLLER)))
+        self.does('key("n")')
+        for tick in ("24", "30"):
+            self.assertEqual(self.does(f"click({tick})")[:2], tick)
+            self.assertEqual(self.does("over(36)")[:2], tick)
+        self.does("click(30)")
+        self.assertEqual(self.does("over(36)")[:2], "36")
 
     def test_facts_of_an_instant(self) -> None:
         self.detail(CONTROLLER)
@@ -211,6 +236,8 @@ class Page(unittest.TestCase):
         self.assertGreater(box[0], 440)
         self.assertEqual(box[1:], [True, True])
         self.shot("narrow")
+        self.driver.execute_cdp_cmd("Emulation.setDeviceMetricsOverride", {"width": 360, "height": 740, "deviceScaleFactor": 1, "mobile": False})
+        self.assertGreaterEqual(self.does("document.getElementById('search').clientWidth"), 110)
 
     def test_the_legend_and_the_keys(self) -> None:
         self.detail(CONTROLLER)

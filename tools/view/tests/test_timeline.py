@@ -56,8 +56,6 @@ class Timelines(unittest.TestCase):
         self.assertEqual([thread.name for thread in seen.threads], ["ctl", "srv", "mon"])
         self.assertEqual(runs(seen), CONTROLLER_RUNS)
         self.assertEqual(seen.idle, [(7, 20)])
-        self.assertEqual([thread.name if thread else None for thread in map(seen.running_at, (0, 5, 7, 19, 25, 43))],
-                         ["ctl", "srv", None, None, "mon", "mon"])
 
     def test_who_waits_in_the_controller(self) -> None:
         seen = timeline(CONTROLLER)

@@ -158,12 +158,15 @@ class Words(unittest.TestCase):
 
     def test_a_line_that_breaks_a_rule_is_shown(self) -> None:
         self.checkout.put_built()
-        self.checkout.write("crates/pse52/out/pse52", "#!/bin/sh\nprintf 'breach 2 4\\n'\nexit 9\n")
+        self.checkout.write("crates/pse52/out/pse52", "#!/bin/sh\ncat >/dev/null\nprintf 'breach 2 4\\n'\nexit 9\n")
         subprocess.run(["sh", str(self.checkout.top / "tools/wrapper/record.sh"), self.checkout.sum("sources")], check=True)
         self.checkout.write("t.trace", "one\ntwo\n")
         ended = self.checkout.run("audit", "s.task", "t.trace", "--explain")
         self.assertEqual((ended.status, ended.out), (9, "breach 2 4\n"))
         self.assertIn("line 2 of t.trace: two\n", ended.err)
+        ended = self.checkout.run("audit", "--explain", text="server a 10 2 4\n%%\none\n5 activate a 3\n")
+        self.assertEqual((ended.status, ended.out), (9, "breach 2 4\n"))
+        self.assertIn("pse52: line 2 of the trace breaks rule 4 for the server 'a': 5 activate a 3\npse52: rule 4 of docs/AUDIT.md: An", ended.err)
 
     def test_files_of_any_name_beside_one_another(self) -> None:
         self.checkout.put_release()

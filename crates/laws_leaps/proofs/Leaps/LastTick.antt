@@ -17,7 +17,6 @@ use Rattle.rules_machine.specs.Settling.{Shift, left_runnable, settled, shift_be
 use Rattle.rules_machine.specs.Turns.{Turn, settles_since, turn_of}
 use Rattle.rules_machine.specs.Servers.{has_high}
 use Rattle.rules_machine.specs.Delivery.{sweeps}
-use Rattle.rules_machine.specs.Dispatch.{dispatch_event, dispatches, is_same, tells_unless}
 use Rattle.rules_machine.specs.Units.{Following, InUnit, advances, advancing, begins_finish, choice, cleaning_up, continuing, finishing, following, in_cleanup, in_unit, is_at_end, takes_unit}
 use Rattle.rules_machine.specs.Ticks.{completes, completes_at, frames_charged, runs, runs_head, tick_ends, unit_ticked, unless_killed, prepares}
 use Rattle.rules_machine.specs.Runs.{ran, tick_of}
@@ -32,7 +31,7 @@ use Rattle.rules_leaps.specs.Quiet.{after_quiet}
 use Rattle.laws_leaps.proofs.Quiet.Charges.{charged_can_run, charged_exec}
 use Rattle.laws_machine.proofs.Signals.Takers.{charge_of}
 use Rattle.laws_leaps.proofs.Quiet.Once.{Begins, StaysHigh, begins_on, charges_once, matters_of, one_is, stays_high}
-use Rattle.laws_leaps.proofs.Quiet.Prepared.{Begun, one_plain, plain_charges, prepares_nothing, same_again}
+use Rattle.laws_leaps.proofs.Quiet.Prepared.{Begun, one_plain, plain_charges, prepares_nothing}
 use Rattle.laws_leaps.proofs.Leaps.Calm.{Handled, tick_handled}
 use Rattle.laws_leaps.proofs.Leaps.Bridge.{PlainCalm, fewer_plain}
 
@@ -97,14 +96,6 @@ module _ {P : Type 0} (bodies : Bodies P) where
       by_left (suc n) = refl
 
   -- ---- the head before the last tick
-
-  pub dispatched_again : (t : ℕ) (x : Machine P) → x.last ≡ last.Ran t → dispatches (Some t) (turn_of x) ≡ turn_of x
-  dispatched_again t x e =
-      ap (λ (b : Bool). record (tells_unless b (dispatch_event x (Some t)) (turn_of x)) { machine = record ((tells_unless b (dispatch_event x (Some t)) (turn_of x)).machine) { last = last.Ran t } }) (is_again ∙ same_again (Some t))
-      ∙ ap (λ l. turn_of (record x { last = l })) (sym e)
-    where
-      is_again : is_same x.last (Some t) ≡ is_same (last.Ran t) (Some t)
-      is_again = ap (λ l. is_same l (Some t)) e
 
   -- what is left of the unit after a charge that does not matter
   pub left_at : (t : ℕ) (n : Machine P) → Begins bodies t n → unless_ended bodies n.killed n ≡ false → (l : ℕ) × (top_left (charge_of bodies (thread_at n t)).frames ≡ suc l)

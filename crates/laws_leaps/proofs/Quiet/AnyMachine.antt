@@ -18,7 +18,7 @@ use Rattle.rules_machine.proofs.Standing.{one_if, stands}
 use Rattle.rules_moves.proofs.Waiters.Best.{Each, running_within}
 use Rattle.rules_moves.proofs.Runs.Listed.{head_can_run}
 use Rattle.laws_machine.proofs.Lists.Places.{Stand}
-use Rattle.rules_leaps.specs.Quiet.{AreCharges, IsHandled, IsQuiet, at_once, one_charge, ticks_of_head, ticks_unless_killed, told_with_dispatch}
+use Rattle.rules_leaps.specs.Quiet.{AreCharges, IsHandled, IsQuiet, ticks_at_once, one_charge, ticks_of_head, ticks_unless_killed, told_with_dispatch}
 use Rattle.laws_leaps.proofs.Quiet.Ticks.{idle_items}
 use Rattle.laws_leaps.proofs.Quiet.Runs.{charges, first_of, nothing_due, second_of}
 use Rattle.laws_leaps.proofs.Quiet.Once.{charges_once, idle_once}
@@ -84,7 +84,7 @@ module _ {P : Type 0} (bodies : Bodies P) where
 
   -- ---- one charge of so many ticks
 
-  pub charged_at_once : (j : ℕ) (m : Machine P) → Handled bodies m → ((i : ℕ) → i < j → unless_ended bodies (charges bodies i m).killed (charges bodies i m) ≡ false) → charges bodies (suc j) m ≡ at_once bodies (suc j) m
+  pub charged_at_once : (j : ℕ) (m : Machine P) → Handled bodies m → ((i : ℕ) → i < j → unless_ended bodies (charges bodies i m).killed (charges bodies i m) ≡ false) → charges bodies (suc j) m ≡ ticks_at_once bodies (suc j) m
   charged_at_once j m h quiet = by_killed m.killed refl
     where
       by_head : (o : Option ℕ) → m.killed ≡ None → head m ≡ o → charges bodies (suc j) m ≡ ticks_of_head bodies (suc j) o (prepares o (turn_of m)).machine
@@ -125,16 +125,16 @@ module _ {P : Type 0} (bodies : Bodies P) where
     quiet_calm zero q = no_calm bodies ready
     quiet_calm (suc k) q = next_calm k (quiet_calm k (λ i low high. q i low (omega arith))) (q (suc k) (omega arith) (omega arith))
 
-    each_charge : (k : ℕ) → IsQuiet bodies k m → (j : ℕ) → 1 ≤ j → j ≤ k → ticks bodies j m ≡ record { machine = at_once bodies j m; events = told_with_dispatch m.killed (turn_of m) }
+    each_charge : (k : ℕ) → IsQuiet bodies k m → (j : ℕ) → 1 ≤ j → j ≤ k → ticks bodies j m ≡ record { machine = ticks_at_once bodies j m; events = told_with_dispatch m.killed (turn_of m) }
     each_charge k q zero low high = absurd (omega arith)
     each_charge k q (suc j) low high =
         let c = quiet_calm k q in
         let before : Calm bodies j ready = record { quiet = λ i small. c.quiet i (omega arith); idle = λ i small. c.idle i (omega arith) } in
         calm_ticks bodies j m direct handled' before (c.quiet j (omega arith))
         ∙ ap (λ (x : Machine P). record { machine = x; events = told_with_dispatch ready.killed (instant bodies (turn_of m)) }) (charged_at_once j ready handled' before.quiet)
-        ∙ ap (λ (s : Turn P). record { machine = at_once bodies (suc j) s.machine; events = told_with_dispatch s.machine.killed s }) same
+        ∙ ap (λ (s : Turn P). record { machine = ticks_at_once bodies (suc j) s.machine; events = told_with_dispatch s.machine.killed s }) same
 
-    last_charge : (k : ℕ) → IsQuiet bodies k m → one_charge bodies (ticks bodies k m).machine ≡ at_once bodies (k + 1) m
+    last_charge : (k : ℕ) → IsQuiet bodies k m → one_charge bodies (ticks bodies k m).machine ≡ ticks_at_once bodies (k + 1) m
     last_charge zero q = charged_at_once 0 m h (λ i small. absurd (omega arith))
     last_charge (suc k) q =
         let c = quiet_calm (suc k) q in
@@ -142,8 +142,8 @@ module _ {P : Type 0} (bodies : Bodies P) where
         let more : suc (suc k) ≡ suc k + 1 = omega arith in
         ap (λ (r : Ran P). one_charge bodies r.machine) (calm_ticks bodies k m direct handled' before (c.quiet k (omega arith)))
         ∙ charged_at_once (suc k) ready handled' c.quiet
-        ∙ ap (λ (s : Turn P). at_once bodies (suc (suc k)) s.machine) same
-        ∙ ap (λ (n : ℕ). at_once bodies n m) more
+        ∙ ap (λ (s : Turn P). ticks_at_once bodies (suc (suc k)) s.machine) same
+        ∙ ap (λ (n : ℕ). ticks_at_once bodies n m) more
 
     pub are_charges : (k : ℕ) → IsQuiet bodies k m → AreCharges bodies k m
     are_charges k q = record { each = each_charge k q; last = last_charge k q }

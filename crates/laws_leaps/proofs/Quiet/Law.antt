@@ -12,7 +12,7 @@ use Rattle.rules_machine.specs.Eventful.{has_item, is_eventful, next_tick_matter
 use Rattle.rules_machine.specs.WellFormed.{IsWellFormed}
 use Rattle.laws_leaps.proofs.Quiet.Runs.{charges, handled_swept, first_of, handled, handled_nothing, handled_stands, last_charge, quiet_ticks, second_of}
 use Rattle.rules_moves.proofs.Runs.Units.{bodies_fit}
-use Rattle.rules_leaps.specs.Quiet.{IsQuietBetween, at_once, one_charge}
+use Rattle.rules_leaps.specs.Quiet.{IsQuietBetween, ticks_at_once, one_charge}
 use Rattle.laws_leaps.proofs.Quiet.AnyMachine.{charged_at_once}
 use Rattle.laws_leaps.proofs.Leaps.Calm.{Handled}
 use Rattle.rules_machine.proofs.ItemsEnd.{instant_ends}
@@ -43,20 +43,20 @@ module _ (script : Script) (fits : IsWellFormed script) where
       record { nothing = instant_ends (bodies_of script) (turn_of (machine script a)); listed = r.listed; stand = r.rest.0.0.stand; swept = handled_swept (bodies_of script) (bodies_fit script fits.priorities) script fits a }
 
   -- so many charges, one after another, are one
-  once : (a k : ℕ) → IsQuietBetween script a (a + suc k) → charges (bodies_of script) (suc k) (now a) ≡ at_once (bodies_of script) (suc k) (now a)
+  once : (a k : ℕ) → IsQuietBetween script a (a + suc k) → charges (bodies_of script) (suc k) (now a) ≡ ticks_at_once (bodies_of script) (suc k) (now a)
   once a k h = charged_at_once (bodies_of script) k (now a) (stands a) (no_matter a k h)
 
   fewer : (a b c : ℕ) → c ≤ b → IsQuietBetween script a b → IsQuietBetween script a c
   fewer a b c le h i low high = h i low (omega arith)
 
   -- at each of the instants between
-  pub quiet_machine : (a k : ℕ) → IsQuietBetween script a (a + k) → (j : ℕ) → 1 ≤ j → j < k → machine script (a + j) ≡ at_once (bodies_of script) j (now a)
+  pub quiet_machine : (a k : ℕ) → IsQuietBetween script a (a + k) → (j : ℕ) → 1 ≤ j → j < k → machine script (a + j) ≡ ticks_at_once (bodies_of script) j (now a)
   quiet_machine a k h zero low high = absurd (omega arith)
   quiet_machine a k h (suc j) low high = quiet_ticks script fits a k h (suc j) low high ∙ once a j (fewer a (a + k) (a + suc j) (omega arith) h)
 
   -- and with the charge of the last tick
-  pub quiet_charge : (a k : ℕ) → IsQuietBetween script a (a + k + 1) → 1 ≤ k → one_charge (bodies_of script) (machine script (a + k)) ≡ at_once (bodies_of script) (k + 1) (now a)
+  pub quiet_charge : (a k : ℕ) → IsQuietBetween script a (a + k + 1) → 1 ≤ k → one_charge (bodies_of script) (machine script (a + k)) ≡ ticks_at_once (bodies_of script) (k + 1) (now a)
   quiet_charge a k h some =
       let more : suc k ≡ k + 1 = omega arith in
       let h' = fewer a (a + k + 1) (a + suc k) (omega arith) h in
-      last_charge script fits a k h' some ∙ once a k h' ∙ ap (λ (n : ℕ). at_once (bodies_of script) n (now a)) more
+      last_charge script fits a k h' some ∙ once a k h' ∙ ap (λ (n : ℕ). ticks_at_once (bodies_of script) n (now a)) more

@@ -17,9 +17,9 @@ use Rattle.rules_bodies.proofs.Relative.{and_then, from_head, from_inside, from_
 use Rattle.rules_machine.specs.declared.frame.BodyOf.{BodyOf}
 use Rattle.rules_machine.specs.declared.frame.BodyOf.TheVariants as body_of
 use Rattle.rules_machine.specs.Declarations.{ThreadDecl, cleanup_kind, declared_thread, handler_kind, named}
-use Rattle.rules_machine.specs.Machine.{block_of, bodies_of}
+use Rattle.rules_machine.specs.Machine.{body_tree, bodies_of}
 use Rattle.rules_machine.specs.Promises.{guards_at, guards_in, guards_round}
-use Rattle.rules_machine.specs.WellFormed.{DeclsGuarded, StepsPlain, depth, is_guarding}
+use Rattle.rules_machine.specs.WellFormed.{DeclsGuarded, StepsPlain, guard_depth, is_guarding}
 use Rattle.laws_machine.specs.GuardedBodies.{BodiesGuarded, Guards, most_of}
 
 -- from so many pushed, where a block comes to
@@ -199,8 +199,8 @@ finish_leads gs body (Ended r) h = (h, refl)
 
 -- ---- how many
 
-at_few : (inside : Block → List ℕ) (block : Block) → ((b : Block) → length (inside b) ≤ depth b) → length (guards_at inside block) ≤ depth block
-at_few inside (Guarding cleanup run inner rest) h = let k = h inner in let l = last_length (inside inner) cleanup in let m = left_most (suc (depth inner)) (depth rest) in omega arith
+at_few : (inside : Block → List ℕ) (block : Block) → ((b : Block) → length (inside b) ≤ guard_depth b) → length (guards_at inside block) ≤ guard_depth block
+at_few inside (Guarding cleanup run inner rest) h = let k = h inner in let l = last_length (inside inner) cleanup in let m = left_most (suc (guard_depth inner)) (guard_depth rest) in omega arith
   where
     last_length : (xs : List ℕ) (c : ℕ) → length (xs ++ c ∷ []) ≡ suc (length xs)
     last_length [] c = refl
@@ -208,8 +208,8 @@ at_few inside (Guarding cleanup run inner rest) h = let k = h inner in let l = l
 
     left_most : (a b : ℕ) → a ≤ max a b
     left_most a b = grind arith
-at_few inside (Testing named equal inner rest) h = let k = h inner in let m : depth inner ≤ max (depth inner) (depth rest) = grind arith in omega arith
-at_few inside (Looping times inner rest) h = let k = h inner in let m : depth inner ≤ max (depth inner) (depth rest) = grind arith in omega arith
+at_few inside (Testing named equal inner rest) h = let k = h inner in let m : guard_depth inner ≤ max (guard_depth inner) (guard_depth rest) = grind arith in omega arith
+at_few inside (Looping times inner rest) h = let k = h inner in let m : guard_depth inner ≤ max (guard_depth inner) (guard_depth rest) = grind arith in omega arith
 at_few inside Nothing h = omega arith
 at_few inside (Running n rest) h = omega arith
 at_few inside (Making c rest) h = omega arith
@@ -217,38 +217,38 @@ at_few inside (Setting n rest) h = omega arith
 at_few inside (Adding n rest) h = omega arith
 at_few inside (Taking rest) h = omega arith
 
-steps_depth : (i : ℕ) (block : Block) → depth (steps_from i block) ≤ depth block
+steps_depth : (i : ℕ) (block : Block) → guard_depth (steps_from i block) ≤ guard_depth block
 steps_depth zero block = omega arith
 steps_depth (suc i) block = let a = steps_depth i (rest_of block) in let b = rest_depth block in omega arith
   where
-    rest_depth : (block : Block) → depth (rest_of block) ≤ depth block
+    rest_depth : (block : Block) → guard_depth (rest_of block) ≤ guard_depth block
     rest_depth Nothing = omega arith
     rest_depth (Running n rest) = omega arith
     rest_depth (Making c rest) = omega arith
     rest_depth (Setting n rest) = omega arith
     rest_depth (Adding n rest) = omega arith
     rest_depth (Taking rest) = omega arith
-    rest_depth (Testing named equal inner rest) = right_most (depth inner) (depth rest)
+    rest_depth (Testing named equal inner rest) = right_most (guard_depth inner) (guard_depth rest)
       where
         right_most : (a b : ℕ) → b ≤ max a b
         right_most a b = grind arith
-    rest_depth (Looping times inner rest) = right_most (depth inner) (depth rest)
+    rest_depth (Looping times inner rest) = right_most (guard_depth inner) (guard_depth rest)
       where
         right_most : (a b : ℕ) → b ≤ max a b
         right_most a b = grind arith
-    rest_depth (Guarding cleanup run inner rest) = right_most (suc (depth inner)) (depth rest)
+    rest_depth (Guarding cleanup run inner rest) = right_most (suc (guard_depth inner)) (guard_depth rest)
       where
         right_most : (a b : ℕ) → b ≤ max a b
         right_most a b = grind arith
 
-round_few : (place : Place) (block : Block) → length (guards_round place block) ≤ depth block
+round_few : (place : Place) (block : Block) → length (guards_round place block) ≤ guard_depth block
 round_few (At i) block = omega arith
 round_few (In i passes place) block = let a = at_few (guards_round place) (steps_from i block) (round_few place) in let b = steps_depth i block in omega arith
 
 -- ---- of a script
 
 abbrev IsGuarded : ℕ → Block → Type 0
-IsGuarded most block = StepsPlain block × (depth block ≤ most)
+IsGuarded most block = StepsPlain block × (guard_depth block ≤ most)
 
 threads_guarded : (ds : List Decl) (t : ℕ) → DeclsGuarded ds → IsGuarded 8 (slice_index_or (map (λ (d : ThreadDecl). d.body) (filter_map declared_thread ds)) t Nothing)
 threads_guarded [] t h = (tt, omega arith)
@@ -272,7 +272,7 @@ cleanups_guarded (decl.Named name (kind.Cleanup body) ∷ ds) (suc n) h = cleanu
 cleanups_guarded (decl.Named name other ∷ ds) n h = cleanups_guarded ds n h.1
 
 module _ (script : Script) (known : DeclsGuarded script.decls) where
-  block_guarded : (body : BodyOf) → IsGuarded (most_of body) (block_of script body)
+  block_guarded : (body : BodyOf) → IsGuarded (most_of body) (body_tree script body)
   block_guarded (body_of.Thread t) = threads_guarded script.decls t known
   block_guarded (body_of.Cleanup u) = cleanups_guarded script.decls u known
   block_guarded (body_of.Handler h) = handlers_guarded script.decls h known
@@ -281,8 +281,8 @@ module _ (script : Script) (known : DeclsGuarded script.decls) where
   bodies_guarded = record {
     start = λ body. refl;
     next = λ body place seen.
-        let block = block_of script body in
+        let block = body_tree script body in
         subst (λ (o : Outcome). Guards (or_finish block o).unit (guards_round place block) (guards_round (or_finish block o).place block)) (sym (place_same seen.result seen.value place block seen.register))
         (finish_leads (guards_round place block) block (from_place seen.result seen.value place block seen.register) (place_leads seen.result seen.value place block seen.register (block_guarded body).0));
-    few = λ body place. (let a = round_few place (block_of script body) in let b = (block_guarded body).1 in omega arith);
+    few = λ body place. (let a = round_few place (body_tree script body) in let b = (block_guarded body).1 in omega arith);
   }

@@ -1,5 +1,5 @@
 -- What is kept from one settling to the next, every run keeps: laws that look at the machine before an effect.
-use Rattle.std.proofs.Common.{Bool, None, Option, Some, [], ap, arith, false, refl, suc, sym, true, zero, ℕ, ◌≡◌}
+use Rattle.std.proofs.Common.{Bool, None, Option, Some, [], arith, false, refl, suc, true, zero, ℕ, ◌≡◌}
 use mathlib.Core.Path.{subst, ◌∙◌}
 use Rattle.words_numbers.specs.declared.item.Item.{Item}
 use Rattle.words_numbers.specs.declared.item.Item.TheVariants as item
@@ -12,12 +12,10 @@ use Rattle.rules_machine.specs.Turns.{Turn, becomes, settles_since, turn_of}
 use Rattle.rules_machine.specs.Servers.{has_high}
 use Rattle.rules_machine.specs.Delivery.{sweeps, sweeps_all}
 use Rattle.rules_machine.specs.DueItems.{handles, has_come, instant, item_bound, item_done, item_then, items_done, next_item, start_due, start_in}
-use Rattle.rules_machine.specs.Dispatch.{dispatches, head, tells_unless}
+use Rattle.rules_machine.specs.Dispatch.{head}
 use Rattle.rules_machine.specs.Units.{in_unit}
 use Rattle.rules_machine.specs.Ticks.{completes_at, ends_tick, later, prepares, runs, runs_head, tick, tick_end, tick_ends, unit_ticked, unless_killed}
 use Rattle.rules_machine.specs.Runs.{ticks}
-use Rattle.words_trace.specs.declared.event.Event.{Event}
-use Rattle.rules_machine.specs.Dispatch.{dispatch_event, is_same}
 use Rattle.rules_machine.proofs.ItemsEnd.{is_due, next_is_due}
 use Rattle.rules_moves.specs.Moves.{KeepsAwake, KeepsRenewing, Sleeps, Stops, begins, refills_one, renews_with}
 use Rattle.rules_moves.specs.UnitRanges.{BodiesFit, UnitFits}
@@ -26,7 +24,7 @@ use Rattle.rules_moves.proofs.Calls.Table.{JoinersWait, sweeps_all_keep, times_o
 use Rattle.rules_moves.proofs.Runs.Listed.{AllRun, head_can_run, settled_run}
 use Rattle.rules_moves.proofs.Runs.Preparing.{IsReady, PreparingKeeps, alike_listed, alike_runs, prepared, prepares_keep}
 use Rattle.rules_moves.proofs.Runs.Units.{in_unit_fits}
-use Rattle.rules_moves.proofs.Runs.Ticks.{charged_runs, charged_turn, dispatched}
+use Rattle.rules_moves.proofs.Runs.Ticks.{charged_runs, charged_turn}
 
 -- what every move keeps, it keeps where no thread has a new policy
 pub narrowed : {P : Type 0} (bodies : Bodies P) (who : Option ℕ) (Law : Turn P → Type 0) → KeepsRenewing bodies who Law → KeepsAwake bodies who Law
@@ -66,14 +64,6 @@ pub record TickSince {P : Type 0} (bodies : Bodies P) (Rest : Machine P → Type
   pub unit_settles : (was_high : Bool) (t : ℕ) (before : Machine P) (s : Turn P) → Done was_high t before s → End was_high t (settled before s.direct s.machine)
   pub ends : (was_high : Bool) (t : ℕ) (s : Turn P) → s.direct ≡ [] → End was_high t s.machine → Law s.machine (ends_tick (tick_end was_high s.machine.quantum (thread_at s.machine t)) t s)
   pub idles : (s : Turn P) → IsReady None s.machine → Rest s.machine → Rest (becomes later s).machine
-
-unless_direct : {P : Type 0} (b : Bool) (e : Event) (s : Turn P) → (tells_unless b e s).direct ≡ s.direct
-unless_direct true e s = refl
-unless_direct false e s = refl
-
--- a dispatch makes no direct move
-pub dispatched_direct : {P : Type 0} (to : Option ℕ) (s : Turn P) → (dispatches to s).direct ≡ s.direct
-dispatched_direct to s = unless_direct (is_same s.machine.last to) (dispatch_event s.machine to) s
 
 module _ {P : Type 0} (bodies : Bodies P) (fits : BodiesFit bodies) (Rest : Machine P → Type 0) (Law : Machine P → Turn P → Type 0) (Mid Done : Bool → ℕ → Machine P → Turn P → Type 0) (End : Bool → ℕ → Machine P → Type 0)
     (all : TickSince bodies Rest Law Mid Done End) where

@@ -15,7 +15,7 @@ use Rattle.rules_machine.specs.Bodies.{Bodies, seen_by}
 use Rattle.rules_machine.specs.State.{Frame, Thread}
 use Rattle.rules_machine.specs.Declarations.{ThreadDecl, cleanup_kind, declared_thread, handler_kind, named, threads_of}
 use Rattle.rules_machine.specs.Units.{Following, advances, advancing, begins_finish, cleaning_up, continuing, finishing, following, in_cleanup, in_unit, takes_unit}
-use Rattle.rules_machine.specs.Machine.{block_of, bodies_of}
+use Rattle.rules_machine.specs.Machine.{body_tree, bodies_of}
 use Rattle.rules_machine.specs.WellFormed.{BlockFits, DeclsFit, PolicyFits}
 use Rattle.rules_moves.specs.UnitRanges.{BodiesFit, UnitFits}
 use Rattle.rules_moves.proofs.Waiters.Best.{Each}
@@ -163,13 +163,13 @@ cleanup_block (decl.Named name (kind.Cleanup body) ∷ ds) (suc u) k = cleanup_b
 cleanup_block (decl.Named name other ∷ ds) u k = cleanup_block ds u k.1
 
 module _ (script : Script) (known : DeclsFit script.decls) where
-  block_fits : (body : BodyOf) → BlockFits (block_of script body)
+  block_fits : (body : BodyOf) → BlockFits (body_tree script body)
   block_fits (body_of.Thread t) = thread_block (threads_of script) t (threads_fit script.decls known)
   block_fits (body_of.Cleanup u) = cleanup_block script.decls u known
   block_fits (body_of.Handler h) = handler_block script.decls h known
 
   pub bodies_fit : BodiesFit (bodies_of script)
   bodies_fit body place seen =
-      let block = block_of script body in
+      let block = body_tree script body in
       subst (λ (o : Outcome). UnitFits (or_finish block o).unit) (sym (place_same seen.result seen.value place block seen.register))
       (or_fits block (from_place seen.result seen.value place block seen.register) (place_fits seen.result seen.value place block seen.register (block_fits body)))

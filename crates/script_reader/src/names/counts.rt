@@ -6,6 +6,13 @@ ghost use Rattle.script_table.specs.Ranges.{is_over};
 use script_table::NameKind;
 use std::marker::Model;
 
+// How many message queues, timers, and handlers and cleanup handlers together a script may have.
+const MOST_QUEUES: u64 = 16;
+
+const MOST_TIMERS: u64 = 32;
+
+const MOST_ROUTINES: u128 = 64;
+
 #[derive(Drop)]
 pub(crate) struct Counts {
     threads: u64,
@@ -93,10 +100,10 @@ impl Counts {
             NameKind::Mutex => self.mutexes > most,
             NameKind::Cond => self.conds > most,
             NameKind::Sem => self.sems > most,
-            NameKind::Queue => self.queues > 16,
-            NameKind::Timer => self.timers > 32,
-            NameKind::Handler => self.handlers as u128 + self.cleanups as u128 > 64,
-            NameKind::Cleanup => self.handlers as u128 + self.cleanups as u128 > 64,
+            NameKind::Queue => self.queues > MOST_QUEUES,
+            NameKind::Timer => self.timers > MOST_TIMERS,
+            NameKind::Handler => self.handlers as u128 + self.cleanups as u128 > MOST_ROUTINES,
+            NameKind::Cleanup => self.handlers as u128 + self.cleanups as u128 > MOST_ROUTINES,
         }
     }
 

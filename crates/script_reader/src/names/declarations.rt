@@ -1,5 +1,5 @@
 //! What lines declare, and the least fault of phase 2.
-ghost use Rattle.std.specs.Prelude.{ℕ, ◌≡◌, ◌≤◌, ◌∷◌, ◌++◌, [], map, None, Some, IfOk, MatchResult, MatchOption, length};
+ghost use Rattle.std.specs.Prelude.{ℕ, ◌≡◌, ◌≤◌, ◌∷◌, ◌++◌, [], map, None, Some, MatchResult};
 ghost use Rattle.std.specs.List.{list_any};
 ghost use Rattle.std.specs.Option.{option_map};
 ghost use Rattle.script_table.specs.Faults.{least, least_kind};

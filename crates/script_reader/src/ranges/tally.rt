@@ -9,6 +9,13 @@ use crate::structure::blocks::{body_kind, closed_by, closer_of};
 use script_table::{Closer, Form, NameKind, ObjectForm, Version};
 use std::marker::Model;
 
+// How many steps a script may have, how deep its blocks may stand in one another, and how many cleanup handlers may be pushed at once.
+const MOST_STEPS: u64 = 65_536;
+
+const MOST_DEPTH: u64 = 16;
+
+const MOST_PUSHES: u64 = 8;
+
 fn object_kind(form: ObjectForm) -> NameKind
     ensures { result ≡ object_kind form }
 {
@@ -114,9 +121,11 @@ impl Tally {
             Form::Object(form) => self.counts.is_over(self.most, object_kind(form)),
             Form::Action(_) => false,
             Form::Body(form) => self.counts.is_over(self.most, body_kind(form)),
-            Form::Step(_) => self.steps > 65_536,
-            Form::Call(_) => self.steps > 65_536,
-            Form::Block(_) => self.steps > 65_536 || (self.depth > 16 || self.pushes > 8),
+            Form::Step(_) => self.steps > MOST_STEPS,
+            Form::Call(_) => self.steps > MOST_STEPS,
+            Form::Block(_) => {
+                self.steps > MOST_STEPS || (self.depth > MOST_DEPTH || self.pushes > MOST_PUSHES)
+            }
             Form::Close(_) => false,
         }
     }

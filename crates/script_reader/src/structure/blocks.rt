@@ -1,6 +1,5 @@
 //! The bodies and blocks that are open.
 ghost use Rattle.std.specs.Prelude.{◌≡◌, ◌∷◌, [], IfOk, not, MatchOption};
-ghost use Rattle.words_script.specs.Kinds.{same_kind};
 ghost use Rattle.script_table.specs.Patterns.{same_closer, is_barred};
 ghost use Rattle.script_table.specs.Structure.{body_kind, closer_of, closed_by, not_here, step_faults, close_faults, inner, opened, tail_of, is_nil};
 ghost use Rattle.script_table.specs.Faults.{least_kind, when};
@@ -145,7 +144,7 @@ impl Blocks {
         }
     }
 
-    // What a line of this form may not be here.
+    // What is wrong with a line of this form here; `None` exactly where nothing is.
     pub(crate) fn fault(&self, form: Form, bar: Bar) -> Option<FaultKind>
         ensures { result ≡ least_kind (not_here form bar self.now) }
     {

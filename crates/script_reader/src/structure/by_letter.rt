@@ -137,9 +137,7 @@ impl ByLetter {
         ensures row { option_map (λ s. s.row) result ≡ fitting_some self.now words.entry.words }
         ensures line { IfSome result (λ s. (s.line ≡ line) × (s.words ≡ words.entry.words)) }
     {
-        let Some(first) = words.next_word() else {
-            return None;
-        };
+        let first = words.next_word()?;
         match fitting_pattern(self.of_word(first.bytes), first.bytes, &words) {
             None => None,
             Some(fitting) => Some(Statement::new(line, fitting, &words)),

@@ -2,7 +2,7 @@
 ghost use Rattle.std.specs.Prelude.{◌≡◌, ◌≤◌, ◌+◌, ◌∷◌, Ok, IfOk, MatchResult, length, map, true};
 ghost use Rattle.script_lex.specs.Lines.{lines_of};
 ghost use Rattle.script_lex.specs.Words.{before_comment, has_bad_byte};
-ghost use Rattle.script_table.specs.Heading.{is_two, unless_bad, begins, by_version, by_words, heading, printed, printed_words};
+ghost use Rattle.script_table.specs.Heading.{is_two, begins, by_version, by_words, heading, printed};
 ghost use Rattle.script_reader.specs.Begun.{begun};
 ghost use Rattle.script_reader.specs.Ends.{EndsHeading};
 

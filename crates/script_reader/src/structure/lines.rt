@@ -1,5 +1,5 @@
 //! What the lines of a text say.
-ghost use Rattle.std.specs.Prelude.{◌+◌, ◌≡◌, ◌≤◌, ◌∷◌, [], map, None, Some, MatchResult, length, option_to_list};
+ghost use Rattle.std.specs.Prelude.{◌+◌, ◌≡◌, ◌≤◌, ◌∷◌, [], None, Some, MatchResult, length, option_to_list};
 ghost use Rattle.std.specs.Option.{option_map};
 ghost use Rattle.script_table.specs.Faults.{Fault, least, least_kind, fault};
 ghost use Rattle.script_table.specs.Patterns.{rows_of};

@@ -2,7 +2,8 @@
 ghost use Rattle.std.specs.Prelude.{◌≡◌, ◌∷◌, [], codes, decimal};
 ghost use Rattle.script_writer.specs.Line.{line_text};
 ghost use Rattle.script_writer.specs.Names.{name_of};
-ghost use Rattle.script_writer.specs.Words.{moment_words, operand_word, signal_word};
+ghost use Rattle.script_writer.specs.Words.{moment_words, operand_word};
+ghost use Rattle.words_numbers.specs.Words.{signal_word};
 ghost use Rattle.words_script.specs.declared.name_kind.NameKind.TheVariants as name_kind;
 
 use crate::line::Word::{Keyword, Name, Number, Signal, Value};

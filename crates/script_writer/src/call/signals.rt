@@ -2,7 +2,8 @@
 ghost use Rattle.std.specs.Prelude.{◌≡◌, ◌≤◌, ◌∷◌, [], length, codes, decimal};
 ghost use Rattle.script_writer.specs.Line.{line_text};
 ghost use Rattle.script_writer.specs.Names.{name_of};
-ghost use Rattle.script_writer.specs.Words.{operand_word, signal_word, set_word};
+ghost use Rattle.script_writer.specs.Words.{operand_word, set_word};
+ghost use Rattle.words_numbers.specs.Words.{signal_word};
 ghost use Rattle.words_script.specs.declared.name_kind.NameKind.TheVariants as name_kind;
 
 use crate::line::Word::{Keyword, Name, Number, Signal, Signals, Value};

@@ -1,6 +1,5 @@
 use Rattle.std.proofs.Common.{◌≡◌, ◌<◌, ◌^◌, ◌∷◌, [], add-one, ap, append-nil, arith, codes, flat_map, sym, take, ◌∙◌}
-use Rattle.words_numbers.specs.Words.{sig_code_text}
-use Rattle.script_writer.specs.Words.{signal_word}
+use Rattle.words_numbers.specs.Words.{sig_code_text, signal_word}
 use Rattle.rules_facts.specs.Signals.{pending_of}
 use Rattle.rules_facts.specs.Spelled.{pending_words, target_word}
 use Rattle.kernel_texts.proofs.Lines.{told_some, words_all, words_more}

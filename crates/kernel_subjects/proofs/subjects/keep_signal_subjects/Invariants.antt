@@ -1,6 +1,6 @@
 use Rattle.std.proofs.Common.{[], ◌∷◌}
 use Rattle.std.specs.Prelude.{codes}
-use Rattle.script_writer.specs.Words.{signal_word}
+use Rattle.words_numbers.specs.Words.{signal_word}
 use Rattle.kernel_texts.specs.Kept.{KeptIn, kept_below}
 use Rattle.kernel_texts.specs.Subjects.{about}
 use Rattle.kernel_subjects.proofs.subjects.keep_signal_subjects.Given as goal

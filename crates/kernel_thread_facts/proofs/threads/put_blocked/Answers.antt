@@ -5,7 +5,7 @@ use Rattle.rules_machine.specs.CallNames.{name_of}
 use Rattle.words_trace.specs.Calls.{call_word}
 use Rattle.kernel_threads.specs.Plain.{wait_of, waiting_of}
 use Rattle.rules_facts.specs.Spelled.{awaited_words, until_words, words_if_any}
-use Rattle.rules_facts.specs.Threads.{awaited, block_of, priorities_of}
+use Rattle.rules_facts.specs.Threads.{awaited, blocking_of, priorities_of}
 use Rattle.script_printer.proofs.Puts.{puts_both}
 use Rattle.kernel_texts.proofs.Lines.{line_in_three}
 use Rattle.kernel_texts.proofs.Puts.{puts_as}
@@ -28,5 +28,5 @@ returns-clause-short g c =
     let m = c.args.parts.now.machine in
     let assigned : c.from.result ≡ assigned_of (thread_at m c.args.t) = c.from.ensures ∙ c.get.ensures.value ∙ c.assigned.ensures ∙ ap assigned_of c.thread.ensures in
     let higher : c.from-2.result ≡ exec m c.args.t = c.from-2.ensures ∙ c.get-2.ensures.value ∙ c.exec.ensures in
-    blocked_short c.args.decls.now c.args.t (priorities_of m c.args.t) (block_of (waiting_of c.args.waiting.now)) (record { assigned = omega (arith, assigned); exec = omega (arith, higher) })
+    blocked_short c.args.decls.now c.args.t (priorities_of m c.args.t) (blocking_of (waiting_of c.args.waiting.now)) (record { assigned = omega (arith, assigned); exec = omega (arith, higher) })
     c.put_due.ensures.short

@@ -1,5 +1,6 @@
 use Rattle.std.proofs.Common.{◌≡◌, ◌≤◌, ◌+◌, ◌*◌, ◌++◌, length, map}
-use Rattle.script_writer.specs.Words.{signal_word, joined_by_commas, is_nil}
+use Rattle.script_writer.specs.Words.{joined_by_commas, is_nil}
+use Rattle.words_numbers.specs.Words.{signal_word}
 use Rattle.script_writer.proofs.Signals.{signals_below}
 use Rattle.script_writer.proofs.line.add_each_signal.Given as goal
 

@@ -8,7 +8,7 @@ use Rattle.kernel_state.proofs.parts.Parts.begin_end.Goals as goal
 pub invariant_of-self : goal.invariant_of-self
 invariant_of-self c =
     let s = c.self.inside in
-    let w = c.end_with in
+    let w = c.begin_end in
     let f : Thread Cursor → Thread Cursor = ending_with c.args.value in
     record {
       tied = tied_again s.names s.code s.ready.threads s.table.threads w.new.self.threads s.direct (as_many s.table w.new.self c.args.t f w.ensures.table) c.self.invariant.tied;

@@ -8,7 +8,7 @@ use Rattle.kernel_state.proofs.parts.Parts.request_end.Goals as goal
 pub invariant_of-self : goal.invariant_of-self
 invariant_of-self c =
     let s = c.self.inside in
-    let w = c.request in
+    let w = c.request_end in
     let f : Thread Cursor → Thread Cursor = requested in
     record {
       tied = tied_again s.names s.code s.ready.threads s.table.threads w.new.self.threads s.direct (as_many s.table w.new.self c.args.t f w.ensures.table) c.self.invariant.tied;

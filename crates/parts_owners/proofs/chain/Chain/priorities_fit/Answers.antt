@@ -1,5 +1,6 @@
 use Rattle.std.proofs.Common.{◌<◌, arith, length, subst, ℕ}
-use Rattle.parts_owners.specs.Chains.{IsPriority, Links, exec_of}
+use Rattle.parts_owners.specs.Chains.{Links, exec_of}
+use Rattle.rules_machine.specs.WellFormed.{IsPriority}
 use Rattle.parts_owners.specs.ChainView.{links}
 use Rattle.parts_owners.proofs.Done.{cached_is}
 use Rattle.parts_owners.proofs.chain.Chain.priorities_fit.Goals as goal

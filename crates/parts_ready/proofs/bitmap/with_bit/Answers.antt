@@ -1,9 +1,0 @@
-use Rattle.std.proofs.Common.{w64}
-use Rattle.std.proofs.lemmas.Nat.Bits.{bit_at_set_same, bit_at_set_other}
-use Rattle.parts_ready.proofs.bitmap.with_bit.Goals as goal
-
-pub returns-clause-changed : goal.returns-clause-changed
-returns-clause-changed c = bit_at_set_same w64 c.args.word c.args.bit c.requires
-
-pub returns-clause-others : goal.returns-clause-others
-returns-clause-others c k within other = bit_at_set_other w64 c.args.word c.args.bit c.requires k other

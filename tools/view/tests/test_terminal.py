@@ -1,0 +1,153 @@
+"""The time line for a terminal, drawn by hand: which sign stands in which column, and what the last lines say of it."""
+from __future__ import annotations
+
+import unittest
+
+from view.lines import Trace
+from view.text import Columns, draw, letters_of, mark_rows, owners_told, state_row
+from view.timeline import Mark, MarkKind, Owned, Span, State, ThreadLine, Timeline
+
+from .worked import timeline_of_text
+
+RUN, READY, WAIT, OFF = State.RUNNING, State.READY, State.WAITING, State.OFF
+KINDS = ("", "sleep", "mutex", "condition", "semaphore", "queue", "signal", "join")
+
+# It sleeps up to 1000, where 3 ticks at each side of the cut are left, as many as the middle one of all gaps has: 3, 997, 3 and 7.
+CUT = """\
+0 start a
+0 dispatch a 5
+3 idle
+1000 return a nanosleep 0 0
+1000 dispatch a 5
+1003 exit a
+1003 idle
+1010 end
+thread a ticks 6
+"""
+CUT_TEXT = """\
+ticks 0 to 1010, a column is one tick; idle for 1004
+tick 0    5  997
+     |....|//|..|..........
+a    AAA...//...AAA
+     >             x
+idle    iii//iii   iiiiiii
+
+priority: A 5
+. waiting
+marks: > start, x exit
+// the axis is cut: nothing happens from 6 to 997, 991 ticks
+"""
+
+
+def seen(spans: list[Span], end: int, marks: list[Mark] = [], **more) -> Timeline:
+    return Timeline([ThreadLine("a", spans, marks=marks)], end, more.pop("idle", []), None, True, Trace([], []), **more)
+
+
+def rows(timeline: Timeline, width: int | None = None) -> list[str]:
+    """Without the heading and the ruler."""
+    return draw(timeline, width).splitlines()[3:]
+
+
+class Signs(unittest.TestCase):
+    def test_each_state_has_its_sign(self) -> None:
+        spans = [Span(0, 1, RUN, 7), Span(1, 2, READY), *(Span(at, at + 1, WAIT, kind=kind) for at, kind in enumerate(KINDS, 2)), Span(10, 11, OFF)]
+        self.assertEqual(rows(seen(spans, 11)), [
+            "a    A-..#~%=!:?", "", "priority: A 7",
+            "- ready, . waiting, . sleeping, # waiting for a mutex, ~ for a condition, % for a semaphore, = for a queue, ! for a signal, "
+            ": for a thread to end, ? not running and no more is told"])
+
+    def test_only_what_is_there_is_said(self) -> None:
+        self.assertEqual(rows(seen([], 3)), ["a", "", "no thread ran"])
+        self.assertEqual(rows(seen([Span(0, 2, RUN, 7)], 3, idle=[(2, 3)])), ["a    AA", "idle   i", "", "priority: A 7"])
+
+    def test_letters_of_many_priorities(self) -> None:
+        """A to Z; from the 26th on there is Z alone."""
+        for count, letter, told in ((25, "Y", "Y 1"), (26, "Z", "Z 1 and below"), (30, "Z", "Z 5 and below")):
+            timeline = seen([Span(at, at + 1, RUN, at + 1) for at in range(count)], count)
+            self.assertEqual((letters_of(timeline.priorities)[1], letters_of(timeline.priorities)[count]), (letter, "A"))
+            self.assertTrue(rows(timeline)[-1].endswith(told), count)
+            self.assertTrue(rows(timeline)[-1].startswith(f"priority: A {count}, B {count - 1}, "), count)
+
+    def test_handlers_have_a_row(self) -> None:
+        spans = [Span(0, 2, RUN, 7), Span(2, 5, RUN, 7, frame="h"), Span(5, 6, READY, frame="u", cleanup=True)]
+        self.assertEqual(rows(seen(spans, 6)), ["a    AAAAA-", "       ***_", "", "priority: A 7", "- ready, * in a signal handler, _ in a cleanup handler"])
+
+    def test_marks_of_one_column(self) -> None:
+        """Each kind once, in the order in which they happen; of more than four the last row says that there are more. A return of 0 has none."""
+        kinds = [MarkKind.START, MarkKind.DELIVER, MarkKind.RETURN, MarkKind.DELIVER, MarkKind.ERROR, MarkKind.CANCEL, MarkKind.EXIT]
+        for count, column in ((0, []), (1, [">"]), (4, [">", "s"]), (6, [">", "s", "e", "c"]), (7, [">", "s", "e", "&"])):
+            marks = [Mark(3, kind, "", 0) for kind in kinds[:count]]
+            timeline = seen([], 9, marks)
+            self.assertEqual(mark_rows(timeline.threads[0], Columns(timeline, 40)), ["   " + sign for sign in column])
+
+    def test_what_each_mark_is(self) -> None:
+        told = "marks: > start, x exit, c cancel, s deliver, e an error is returned, k the clock is set, ^ activate, ! exhaust, p plan, + refill, " \
+               "r release of a job, L a deadline is missed"
+        self.assertEqual(rows(seen([], 20, [Mark(at, kind, "", 0) for at, kind in enumerate(reversed(MarkKind))]))[-1], told)
+
+    def test_owners(self) -> None:
+        threads = [ThreadLine("a"), ThreadLine("b")]
+        mutexes = [Owned("m", [(1, 3, "b", 0), (3, 4, "b", 2), (6, 7, "a", 1)]), Owned("nn", [(0, 1, "c", 0)])]
+        timeline = Timeline(threads, 8, [], None, True, Trace([], []), mutexes=mutexes)
+        self.assertEqual(rows(timeline), ["a", "b", "m     222  1", "nn   +", "", "no thread ran", "owners: 1 a, 2 b, + a thread that is not shown"])
+        timeline.mutexes = mutexes[:1]
+        self.assertEqual(owners_told(timeline), "owners: 1 a, 2 b")
+
+
+class ManyTicks(unittest.TestCase):
+    """100 ticks do not go into 40 columns; one for 5 is the least step of 1, 2, 5 and so on that does."""
+
+    def test_columns_of_five_ticks(self) -> None:
+        spans = [Span(0, 5, RUN, 9), Span(5, 7, RUN, 3), Span(7, 12, READY), Span(12, 20, RUN, 3), Span(20, 30, WAIT, kind="sleep"), Span(30, 31, RUN, 3),
+                 Span(31, 32, RUN, 9), Span(32, 100, READY)]
+        self.assertEqual(draw(seen(spans, 100, idle=[(22, 24)]), 45).splitlines(), [
+            "ticks 0 to 100, a column is 5 ticks; idle for 2", "tick 0         50", "     |.........|..........", "a    AbbB..a-------------", "idle     i", "",
+            "priority: A 9, B 3", "- ready, . sleeping, a small letter: it runs in a part of the column"])
+
+    def test_the_last_column_may_be_a_part(self) -> None:
+        """Of 98 ticks it has three, and who runs in all of them has all of it."""
+        for start, last in ((95, "A"), (96, "a")):
+            timeline = seen([Span(0, 95, READY), Span(start, 98, RUN, 9)], 98)
+            self.assertEqual(state_row(timeline.threads[0], Columns(timeline, 40), {9: "A"}), 19 * "-" + last)
+
+    def test_marks_stand_in_the_column_of_their_tick(self) -> None:
+        timeline = seen([], 100, [Mark(time, MarkKind.EXIT, "", 0) for time in (4, 5, 49, 100)])
+        self.assertEqual(mark_rows(timeline.threads[0], Columns(timeline, 40)), ["xx       x          x"])
+
+    def test_how_many_ticks_a_column_has(self) -> None:
+        for ticks, width, step in ((39, 40, 1), (40, 40, 2), (78, 40, 2), (79, 40, 5), (195, 40, 5), (196, 40, 10), (100, 101, 1)):
+            columns = Columns(seen([], ticks), width)
+            self.assertEqual((columns.step, columns.count, columns.of(ticks)), (step, -(-ticks // step) + 1, -(-ticks // step)), (ticks, width))
+
+
+class Ruler(unittest.TestCase):
+    def ruler(self, start: int, end: int, width: int = 105) -> list[str]:
+        return [line[5:] for line in draw(seen([], end, start=start), width).splitlines()[1:3]]
+
+    def test_each_stroke_with_room_has_its_number(self) -> None:
+        self.assertEqual(self.ruler(0, 4), ["0", "|...."])
+        self.assertEqual(self.ruler(0, 6), ["0    5", "|....|."])
+        self.assertEqual(self.ruler(0, 10), ["0    5", "|....|....."])
+        self.assertEqual(self.ruler(0, 11), ["0", "|.........|."])
+        self.assertEqual(self.ruler(0, 12), ["0         10", "|.........|.."])
+        self.assertEqual(self.ruler(0, 32), ["0         10        20        30", "|.........|.........|.........|.."])
+
+    def test_a_part_of_a_run(self) -> None:
+        self.assertEqual(self.ruler(7, 24), ["7  10        20", "|..|.........|...."])
+        self.assertEqual(self.ruler(109, 121), ["109", "||.........|."])
+
+    def test_a_cut_drawn_by_hand(self) -> None:
+        self.assertEqual(draw(timeline_of_text(CUT)), CUT_TEXT)
+
+
+class Heading(unittest.TestCase):
+    def test_what_it_says(self) -> None:
+        timeline = seen([], 9, idle=[(2, 4), (5, 8)])
+        timeline.title, timeline.tick, timeline.start, timeline.finished = "one", "5us", 2, False
+        self.assertEqual(draw(timeline).splitlines()[0], "one: ticks 2 to 9, a column is one tick; idle for 5; the trace has no end; a tick is 5us")
+        killed = timeline_of_text("0 start a\n0 dispatch a 5\n5 return a kill 0 0\n5 killed rt1\n5 end\nthread a ticks 5\n")
+        self.assertEqual(draw(killed).splitlines()[0], "ticks 0 to 5, a column is one tick; idle for 0; killed by rt1")
+
+
+if __name__ == "__main__":
+    unittest.main()
