@@ -166,6 +166,14 @@ pub record SinkFaults (status : Status) (before now : ℕ) : Type 0 where
   pub fault : status ≡ WriteFault → Rose before now
   pub no_fault : (status ≡ WriteFault → ⊥) → now ≡ before
 
+-- What a function does that gives an answer: its status says what the sink's text became and tells of the sink's faults, nothing
+-- failed to be read, and where memory lacked the sink is as it was.
+pub record GivesAnswer {K : Type 0} (text : K → Option (List ℕ)) (faults : K → ℕ) (a : Answer) (status : Status) (old new : K) : Type 0 where
+  pub told : Told status a (text old) (text new)
+  pub counted : SinkFaults status (faults old) (faults new)
+  pub read_whole : status ≡ ReadFault → ⊥
+  pub unchanged : status ≡ OutOfMemory → new ≡ old
+
 -- a status that comes with a text
 abbrev pub HasText : Status → Type 0
 HasText Done = Unit {0}

@@ -1,6 +1,6 @@
 //! A text that is written at once.
 ghost use Rattle.std.specs.Prelude.{◌≡◌, ◌⊎◌};
-ghost use Rattle.tool_answers.specs.Answer.{HasText, SinkFaults, Told};
+ghost use Rattle.tool_answers.specs.Answer.{GivesAnswer, HasText};
 
 use crate::Status;
 use parts_io::Sink;
@@ -9,9 +9,7 @@ use parts_io::Sink;
 pub fn put_text<K: Sink>(sink: &mut K, text: &[u8], status: Status) -> Status
     requires { HasText status }
     ensures status { (result ≡ status) ⊎ (result ≡ Status.WriteFault) }
-    ensures told { Told result (record { status = status; text = text.now }) (K.text sink.old) (K.text sink.new) }
-    ensures faults { SinkFaults result (K.faults sink.old) (K.faults sink.new) }
-    ensures read { result ≡ Status.ReadFault → ⊥ }
+    ensures gives { GivesAnswer K.text K.faults (record { status = status; text = text.now }) result sink.old sink.new }
     ensures memory { result ≡ Status.OutOfMemory → ⊥ }
 {
     match sink.write(text) {

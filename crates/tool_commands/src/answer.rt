@@ -2,7 +2,7 @@
 ghost use Rattle.std.specs.Prelude.{◌≡◌, ◌≤◌, ◌+◌, ℕ, false, length};
 ghost use Rattle.script_generator.specs.Generated.{script_of};
 ghost use Rattle.rules_machine.specs.Promises.{busy_between};
-ghost use Rattle.tool_answers.specs.Answer.{Told, SinkFaults, text_answer};
+ghost use Rattle.tool_answers.specs.Answer.{GivesAnswer, text_answer};
 ghost use Rattle.tool_answers.specs.Command.{limit_of, reads, IsWithinLimit};
 ghost use Rattle.tool_answers.specs.Few.{DoubleStepsAreFew, RoundsAreFew, StepsAreFew};
 ghost use Rattle.tool_answers.specs.Statuses.{IsWithoutSource};
@@ -25,10 +25,7 @@ pub(crate) fn answer_text<K: Sink, L: Ledger>(
 ) -> Status
     requires short { length text.now ≤ limit_of command.now }
     requires limit { IsWithinLimit command.now }
-    ensures told { Told result (text_answer command.now text.now) (K.text sink.old) (K.text sink.new) }
-    ensures faults { SinkFaults result (K.faults sink.old) (K.faults sink.new) }
-    ensures read { result ≡ Status.ReadFault → ⊥ }
-    ensures unchanged { result ≡ Status.OutOfMemory → sink.new ≡ sink.old }
+    ensures gives { GivesAnswer K.text K.faults (text_answer command.now text.now) result sink.old sink.new }
     ensures kind { reads command.now ≡ false → IsWithoutSource result }
     ensures busy { (n : ℕ) → command.now ≡ Command.Run n → StepsAreFew n text.now steps.old steps.new }
     ensures shows { (n : ℕ) → command.now ≡ Command.Show n → StepsAreFew n text.now steps.old steps.new }

@@ -7,7 +7,7 @@ ghost use Rattle.rules_machine.specs.WellFormed.{IsWellFormed};
 ghost use Rattle.rules_flat_code.specs.Runnable.{IsRunnable};
 ghost use Rattle.tool_check.specs.Comparison.{comparison};
 ghost use Rattle.tool_check.specs.Divided.{divided};
-ghost use Rattle.tool_answers.specs.Answer.{Told, SinkFaults, compared_answer, divided_answer, trace_answer};
+ghost use Rattle.tool_answers.specs.Answer.{GivesAnswer, compared_answer, divided_answer, trace_answer};
 
 use crate::refused::refuse;
 use crate::runs::print_run;
@@ -75,10 +75,7 @@ fn check_script<K: Sink, L: Ledger>(
     requires well_formed { IsWellFormed script.now }
     requires limit { horizon ≤ 10 ^ 18 }
     requires short { length have.now ≤ 67_108_864 }
-    ensures told { Told result (trace_answer (comparison have.now (trace script.now horizon))) (K.text sink.old) (K.text sink.new) }
-    ensures faults { SinkFaults result (K.faults sink.old) (K.faults sink.new) }
-    ensures read { result ≡ Status.ReadFault → ⊥ }
-    ensures unchanged { result ≡ Status.OutOfMemory → sink.new ≡ sink.old }
+    ensures { GivesAnswer K.text K.faults (trace_answer (comparison have.now (trace script.now horizon))) result sink.old sink.new }
 {
     match difference_of(alloc, script, horizon, have, steps) {
         Ok(None) => put_text(sink, b"same\n", Status::Done),
@@ -99,10 +96,7 @@ fn check_head<K: Sink, L: Ledger>(
     requires head { length head.now ≤ 1_048_576 }
     requires limit { horizon ≤ 10 ^ 18 }
     requires short { length have.now ≤ 67_108_864 }
-    ensures told { Told result (compared_answer horizon have.now (read patterns head.now)) (K.text sink.old) (K.text sink.new) }
-    ensures faults { SinkFaults result (K.faults sink.old) (K.faults sink.new) }
-    ensures read { result ≡ Status.ReadFault → ⊥ }
-    ensures unchanged { result ≡ Status.OutOfMemory → sink.new ≡ sink.old }
+    ensures { GivesAnswer K.text K.faults (compared_answer horizon have.now (read patterns head.now)) result sink.old sink.new }
 {
     match read_script(alloc, head) {
         Ok(script) => check_script(alloc, &script, horizon, have, sink, steps),
@@ -120,10 +114,7 @@ pub fn check_text<K: Sink, L: Ledger>(
 ) -> Status
     requires short { length text.now ≤ 67_108_864 }
     requires limit { horizon ≤ 10 ^ 18 }
-    ensures told { Told result (divided_answer horizon (divided text.now)) (K.text sink.old) (K.text sink.new) }
-    ensures faults { SinkFaults result (K.faults sink.old) (K.faults sink.new) }
-    ensures read { result ≡ Status.ReadFault → ⊥ }
-    ensures unchanged { result ≡ Status.OutOfMemory → sink.new ≡ sink.old }
+    ensures { GivesAnswer K.text K.faults (divided_answer horizon (divided text.now)) result sink.old sink.new }
 {
     let Some((head, have)) = divide(text) else {
         return put_text(sink, b"no trace\n", Status::NoTrace);

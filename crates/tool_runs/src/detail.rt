@@ -7,7 +7,7 @@ ghost use Rattle.rules_machine.specs.Promises.{busy_between};
 ghost use Rattle.rules_machine.specs.WellFormed.{IsWellFormed};
 ghost use Rattle.rules_facts.specs.Detail.{detail};
 ghost use Rattle.kernel_leaps.specs.Shown.{HasFewObjects};
-ghost use Rattle.tool_answers.specs.Answer.{Told, SinkFaults, detail_answer};
+ghost use Rattle.tool_answers.specs.Answer.{GivesAnswer, detail_answer};
 ghost use Rattle.tool_answers.specs.Few.{DoubleStepsAreFew};
 
 use crate::refused::refuse;
@@ -33,10 +33,7 @@ fn tell_detail<K: Sink, L: Ledger>(
     requires well_formed { IsWellFormed script.now }
     requires few { HasFewObjects script.now }
     requires limit { horizon ≤ 10 ^ 18 }
-    ensures told { Told result (record { status = Status.Done; text = detail script.now horizon }) (K.text sink.old) (K.text sink.new) }
-    ensures faults { SinkFaults result (K.faults sink.old) (K.faults sink.new) }
-    ensures read { result ≡ Status.ReadFault → ⊥ }
-    ensures unchanged { result ≡ Status.OutOfMemory → sink.new ≡ sink.old }
+    ensures gives { GivesAnswer K.text K.faults (record { status = Status.Done; text = detail script.now horizon }) result sink.old sink.new }
     ensures busy { steps.new ≤ steps.old + 2 * busy_between script.now 0 horizon + 2 }
 {
     let Ok(kernel) = Kernel::open(alloc, script) else {
@@ -61,10 +58,7 @@ pub fn detail_text<K: Sink, L: Ledger>(
 ) -> Status
     requires short { length text.now ≤ 1_048_576 }
     requires limit { horizon ≤ 10 ^ 18 }
-    ensures told { Told result (detail_answer horizon (read patterns text.now)) (K.text sink.old) (K.text sink.new) }
-    ensures faults { SinkFaults result (K.faults sink.old) (K.faults sink.new) }
-    ensures read { result ≡ Status.ReadFault → ⊥ }
-    ensures unchanged { result ≡ Status.OutOfMemory → sink.new ≡ sink.old }
+    ensures gives { GivesAnswer K.text K.faults (detail_answer horizon (read patterns text.now)) result sink.old sink.new }
     ensures busy { DoubleStepsAreFew horizon text.now steps.old steps.new }
 {
     match read_script(alloc, text) {

@@ -4,7 +4,7 @@ ghost use Rattle.script_generator.specs.Generated.{script_of};
 ghost use Rattle.rules_flat_code.specs.Runnable.{IsRunnable};
 ghost use Rattle.rules_machine.specs.Promises.{busy_between};
 ghost use Rattle.rules_machine.specs.WellFormed.{IsWellFormed};
-ghost use Rattle.tool_answers.specs.Answer.{Told, SinkFaults, closing_lines, soak_answer};
+ghost use Rattle.tool_answers.specs.Answer.{GivesAnswer, closing_lines, soak_answer};
 ghost use Rattle.tool_answers.specs.Statuses.{IsWithoutSource};
 
 use crate::runs::print_soak;
@@ -28,11 +28,8 @@ fn soak_script<K: Sink, L: Ledger>(
     requires runnable { IsRunnable script.now }
     requires well_formed { IsWellFormed script.now }
     requires limit { horizon ≤ 10 ^ 18 }
-    ensures told { Told result (record { status = Status.Done; text = closing_lines script.now horizon })
-        (K.text sink.old) (K.text sink.new) }
-    ensures faults { SinkFaults result (K.faults sink.old) (K.faults sink.new) }
+    ensures gives { GivesAnswer K.text K.faults (record { status = Status.Done; text = closing_lines script.now horizon }) result sink.old sink.new }
     ensures kind { IsWithoutSource result }
-    ensures unchanged { result ≡ Status.OutOfMemory → sink.new ≡ sink.old }
     ensures busy { steps.new ≤ steps.old + busy_between script.now 0 horizon + 1 }
 {
     match print_soak(alloc, script, horizon, sink, steps) {
@@ -52,10 +49,8 @@ pub fn soak<K: Sink, L: Ledger>(
 ) -> Status
     requires seed { seed ≤ 10 ^ 18 }
     requires limit { horizon ≤ 10 ^ 18 }
-    ensures told { Told result (soak_answer seed horizon) (K.text sink.old) (K.text sink.new) }
-    ensures faults { SinkFaults result (K.faults sink.old) (K.faults sink.new) }
+    ensures gives { GivesAnswer K.text K.faults (soak_answer seed horizon) result sink.old sink.new }
     ensures kind { IsWithoutSource result }
-    ensures unchanged { result ≡ Status.OutOfMemory → sink.new ≡ sink.old }
     ensures busy { steps.new ≤ steps.old + busy_between (script_of seed) 0 horizon + 1 }
 {
     match make(alloc, seed) {

@@ -3,7 +3,7 @@ ghost use Rattle.std.specs.Prelude.{◌≡◌, Err, Result};
 ghost use Rattle.words_script.specs.declared.decl.Script.{Script};
 ghost use Rattle.script_table.specs.Faults.{Fault};
 ghost use Rattle.script_reader.specs.Ends.{IsRefusal};
-ghost use Rattle.tool_answers.specs.Answer.{Answer, SinkFaults, Told, fault_line};
+ghost use Rattle.tool_answers.specs.Answer.{Answer, GivesAnswer, fault_line};
 
 use parts_io::Sink;
 use script_reader::ScriptEnd;
@@ -12,12 +12,9 @@ use tool_answers::{Status, put_text, refused_line};
 /// Writes the line of the fault of a text that is no script; nothing where there was no memory to read one. That is the answer of each
 /// command that refuses such a text.
 pub(crate) fn refuse<K: Sink>(end: &ScriptEnd, sink: &mut K) -> Status
-    ensures told { (found : Result Script Fault) → IsRefusal end.now found → (answer : Result Script Fault → Answer)
+    ensures { (found : Result Script Fault) → IsRefusal end.now found → (answer : Result Script Fault → Answer)
         → ((f : Fault) → answer (Err f) ≡ record { status = Status.Refused; text = fault_line f })
-        → Told result (answer found) (K.text sink.old) (K.text sink.new) }
-    ensures faults { SinkFaults result (K.faults sink.old) (K.faults sink.new) }
-    ensures read { result ≡ Status.ReadFault → ⊥ }
-    ensures unchanged { result ≡ Status.OutOfMemory → sink.new ≡ sink.old }
+        → GivesAnswer K.text K.faults (answer found) result sink.old sink.new }
 {
     match end {
         ScriptEnd::Fault(line, kind) => {

@@ -6,7 +6,7 @@ ghost use Rattle.rules_flat_code.specs.Runnable.{IsRunnable};
 ghost use Rattle.rules_machine.specs.Machine.{trace};
 ghost use Rattle.rules_machine.specs.Promises.{busy_between};
 ghost use Rattle.rules_machine.specs.WellFormed.{IsWellFormed};
-ghost use Rattle.tool_answers.specs.Answer.{Told, SinkFaults, run_answer};
+ghost use Rattle.tool_answers.specs.Answer.{GivesAnswer, run_answer};
 ghost use Rattle.tool_answers.specs.Few.{StepsAreFew};
 
 use crate::refused::refuse;
@@ -30,11 +30,7 @@ fn tell_trace<K: Sink, L: Ledger>(
     requires runnable { IsRunnable script.now }
     requires well_formed { IsWellFormed script.now }
     requires limit { horizon ≤ 10 ^ 18 }
-    ensures told { Told result (record { status = Status.Done; text = trace script.now horizon })
-        (K.text sink.old) (K.text sink.new) }
-    ensures faults { SinkFaults result (K.faults sink.old) (K.faults sink.new) }
-    ensures read { result ≡ Status.ReadFault → ⊥ }
-    ensures unchanged { result ≡ Status.OutOfMemory → sink.new ≡ sink.old }
+    ensures gives { GivesAnswer K.text K.faults (record { status = Status.Done; text = trace script.now horizon }) result sink.old sink.new }
     ensures busy { steps.new ≤ steps.old + busy_between script.now 0 horizon + 1 }
 {
     match print_run(alloc, script, horizon, sink, steps) {
@@ -54,10 +50,7 @@ pub fn run_text<K: Sink, L: Ledger>(
 ) -> Status
     requires short { length text.now ≤ 1_048_576 }
     requires limit { horizon ≤ 10 ^ 18 }
-    ensures told { Told result (run_answer horizon (read patterns text.now)) (K.text sink.old) (K.text sink.new) }
-    ensures faults { SinkFaults result (K.faults sink.old) (K.faults sink.new) }
-    ensures read { result ≡ Status.ReadFault → ⊥ }
-    ensures unchanged { result ≡ Status.OutOfMemory → sink.new ≡ sink.old }
+    ensures gives { GivesAnswer K.text K.faults (run_answer horizon (read patterns text.now)) result sink.old sink.new }
     ensures busy { StepsAreFew horizon text.now steps.old steps.new }
 {
     match read_script(alloc, text) {

@@ -7,7 +7,7 @@ ghost use Rattle.rules_machine.specs.Promises.{busy_between};
 ghost use Rattle.rules_machine.specs.WellFormed.{IsWellFormed};
 ghost use Rattle.rules_facts.specs.Shown.{shown};
 ghost use Rattle.kernel_leaps.specs.Shown.{HasFewObjects};
-ghost use Rattle.tool_answers.specs.Answer.{Told, SinkFaults, show_answer};
+ghost use Rattle.tool_answers.specs.Answer.{GivesAnswer, show_answer};
 ghost use Rattle.tool_answers.specs.Few.{StepsAreFew};
 
 use crate::refused::refuse;
@@ -34,10 +34,7 @@ fn tell_shown<K: Sink, L: Ledger>(
     requires well_formed { IsWellFormed script.now }
     requires few { HasFewObjects script.now }
     requires limit { horizon ≤ 10 ^ 18 }
-    ensures told { Told result (record { status = Status.Done; text = shown script.now horizon }) (K.text sink.old) (K.text sink.new) }
-    ensures faults { SinkFaults result (K.faults sink.old) (K.faults sink.new) }
-    ensures read { result ≡ Status.ReadFault → ⊥ }
-    ensures unchanged { result ≡ Status.OutOfMemory → sink.new ≡ sink.old }
+    ensures gives { GivesAnswer K.text K.faults (record { status = Status.Done; text = shown script.now horizon }) result sink.old sink.new }
     ensures busy { steps.new ≤ steps.old + busy_between script.now 0 horizon + 1 }
 {
     match Kernel::open(alloc, script) {
@@ -62,10 +59,7 @@ pub fn show_text<K: Sink, L: Ledger>(
 ) -> Status
     requires short { length text.now ≤ 1_048_576 }
     requires limit { horizon ≤ 10 ^ 18 }
-    ensures told { Told result (show_answer horizon (read patterns text.now)) (K.text sink.old) (K.text sink.new) }
-    ensures faults { SinkFaults result (K.faults sink.old) (K.faults sink.new) }
-    ensures read { result ≡ Status.ReadFault → ⊥ }
-    ensures unchanged { result ≡ Status.OutOfMemory → sink.new ≡ sink.old }
+    ensures gives { GivesAnswer K.text K.faults (show_answer horizon (read patterns text.now)) result sink.old sink.new }
     ensures busy { StepsAreFew horizon text.now steps.old steps.new }
 {
     match read_script(alloc, text) {

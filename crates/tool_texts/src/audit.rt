@@ -5,7 +5,7 @@ ghost use Rattle.tool_audit.specs.Head.{read_head};
 ghost use Rattle.tool_audit.specs.Watch.{begun};
 ghost use Rattle.tool_audit.specs.declared.server.NamedServer.{NamedServer};
 ghost use Rattle.tool_check.specs.Divided.{divided};
-ghost use Rattle.tool_answers.specs.Answer.{Told, SinkFaults, audit_answer, audited_answer, breach_answer};
+ghost use Rattle.tool_answers.specs.Answer.{GivesAnswer, audit_answer, audited_answer, breach_answer};
 
 use parts_io::Sink;
 use std::alloc::Global;
@@ -16,10 +16,8 @@ use tool_check::divide;
 // Tells the first breach of a trace. It takes no memory.
 fn tell_breach<K: Sink>(mut audit: Audit, trace: &[u8], sink: &mut K) -> Status
     requires { length trace.now ≤ 67_108_864 }
-    ensures told { (servers : List NamedServer) → audit ≡ begun servers
-        → Told result (breach_answer (first_breach servers trace.now)) (K.text sink.old) (K.text sink.new) }
-    ensures faults { SinkFaults result (K.faults sink.old) (K.faults sink.new) }
-    ensures read { result ≡ Status.ReadFault → ⊥ }
+    ensures gives { (servers : List NamedServer) → audit ≡ begun servers
+        → GivesAnswer K.text K.faults (breach_answer (first_breach servers trace.now)) result sink.old sink.new }
     ensures memory { result ≡ Status.OutOfMemory → ⊥ }
 {
     match audit.first_breach(trace) {
@@ -35,10 +33,7 @@ fn tell_breach<K: Sink>(mut audit: Audit, trace: &[u8], sink: &mut K) -> Status
 fn audit_trace<K: Sink>(alloc: Global, head: &[u8], trace: &[u8], sink: &mut K) -> Status
     requires head { length head.now ≤ 67_108_864 }
     requires short { length trace.now ≤ 67_108_864 }
-    ensures told { Told result (audited_answer (read_head head.now) trace.now) (K.text sink.old) (K.text sink.new) }
-    ensures faults { SinkFaults result (K.faults sink.old) (K.faults sink.new) }
-    ensures read { result ≡ Status.ReadFault → ⊥ }
-    ensures unchanged { result ≡ Status.OutOfMemory → sink.new ≡ sink.old }
+    ensures { GivesAnswer K.text K.faults (audited_answer (read_head head.now) trace.now) result sink.old sink.new }
 {
     match Audit::open(alloc, head) {
         Ok(audit) => tell_breach(audit, trace, sink),
@@ -54,10 +49,7 @@ fn audit_trace<K: Sink>(alloc: Global, head: &[u8], trace: &[u8], sink: &mut K) 
 /// memory.
 pub fn audit_text<K: Sink>(alloc: Global, text: &[u8], sink: &mut K) -> Status
     requires { length text.now ≤ 67_108_864 }
-    ensures told { Told result (audit_answer (divided text.now)) (K.text sink.old) (K.text sink.new) }
-    ensures faults { SinkFaults result (K.faults sink.old) (K.faults sink.new) }
-    ensures read { result ≡ Status.ReadFault → ⊥ }
-    ensures unchanged { result ≡ Status.OutOfMemory → sink.new ≡ sink.old }
+    ensures { GivesAnswer K.text K.faults (audit_answer (divided text.now)) result sink.old sink.new }
 {
     let Some((head, trace)) = divide(text) else {
         return put_text(sink, b"no trace\n", Status::NoTrace);

@@ -1,7 +1,7 @@
 //! Scripts that are generated.
 ghost use Rattle.std.specs.Prelude.{◌≡◌, ◌≤◌, ◌^◌};
 ghost use Rattle.script_writer.specs.Canon.{canon};
-ghost use Rattle.tool_answers.specs.Answer.{Told, SinkFaults, generated_answer};
+ghost use Rattle.tool_answers.specs.Answer.{GivesAnswer, generated_answer};
 ghost use Rattle.tool_answers.specs.Statuses.{IsWithoutSource};
 
 use parts_io::Sink;
@@ -13,8 +13,7 @@ use words_script::Script;
 
 /// Writes the canonical text of a script. It takes no memory.
 pub(crate) fn put_script<K: Sink>(script: &Script, sink: &mut K) -> Status
-    ensures told { Told result (record { status = Status.Done; text = canon script.now }) (K.text sink.old) (K.text sink.new) }
-    ensures faults { SinkFaults result (K.faults sink.old) (K.faults sink.new) }
+    ensures gives { GivesAnswer K.text K.faults (record { status = Status.Done; text = canon script.now }) result sink.old sink.new }
     ensures kind { IsWithoutSource result }
     ensures memory { result ≡ Status.OutOfMemory → ⊥ }
 {
@@ -27,10 +26,8 @@ pub(crate) fn put_script<K: Sink>(script: &Script, sink: &mut K) -> Status
 /// Writes the canonical text of the script of a number.
 pub fn tell_generated<K: Sink>(alloc: Global, seed: u64, sink: &mut K) -> Status
     requires limit { seed ≤ 10 ^ 18 }
-    ensures told { Told result (generated_answer seed) (K.text sink.old) (K.text sink.new) }
-    ensures faults { SinkFaults result (K.faults sink.old) (K.faults sink.new) }
+    ensures gives { GivesAnswer K.text K.faults (generated_answer seed) result sink.old sink.new }
     ensures kind { IsWithoutSource result }
-    ensures unchanged { result ≡ Status.OutOfMemory → sink.new ≡ sink.old }
 {
     match make(alloc, seed) {
         Ok(script) => put_script(&script, sink),

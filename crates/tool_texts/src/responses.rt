@@ -2,7 +2,7 @@
 ghost use Rattle.std.specs.Prelude.{◌≡◌, ◌≤◌, ◌+◌, ◌*◌, ◌^◌, length};
 ghost use Rattle.tool_times.specs.Answer.{response_lines};
 ghost use Rattle.tool_times.specs.Read.{read};
-ghost use Rattle.tool_answers.specs.Answer.{Told, SinkFaults, responses_answer};
+ghost use Rattle.tool_answers.specs.Answer.{GivesAnswer, responses_answer};
 ghost use Rattle.tool_answers.specs.Few.{RoundsAreFew};
 
 use parts_io::Sink;
@@ -21,10 +21,7 @@ fn print_responses<K: Sink, L: Ledger>(
     steps: &mut Steps<L>,
 ) -> Status
     requires limit { bound ≤ 10 ^ 8 }
-    ensures told { Told result (record { status = Status.Done; text = response_lines bound tasks.now })
-        (K.text sink.old) (K.text sink.new) }
-    ensures faults { SinkFaults result (K.faults sink.old) (K.faults sink.new) }
-    ensures read { result ≡ Status.ReadFault → ⊥ }
+    ensures gives { GivesAnswer K.text K.faults (record { status = Status.Done; text = response_lines bound tasks.now }) result sink.old sink.new }
     ensures memory { result ≡ Status.OutOfMemory → ⊥ }
     ensures rounds { steps.new ≤ steps.old + length tasks.now * (bound + 1) }
 {
@@ -44,10 +41,7 @@ pub fn tell_responses<K: Sink, L: Ledger>(
 ) -> Status
     requires short { length text.now ≤ 67_108_864 }
     requires limit { bound ≤ 10 ^ 8 }
-    ensures told { Told result (responses_answer bound (read text.now)) (K.text sink.old) (K.text sink.new) }
-    ensures faults { SinkFaults result (K.faults sink.old) (K.faults sink.new) }
-    ensures read { result ≡ Status.ReadFault → ⊥ }
-    ensures unchanged { result ≡ Status.OutOfMemory → sink.new ≡ sink.old }
+    ensures gives { GivesAnswer K.text K.faults (responses_answer bound (read text.now)) result sink.old sink.new }
     ensures rounds { RoundsAreFew bound text.now steps.old steps.new }
 {
     match Tasks::open(alloc, text) {

@@ -3,7 +3,7 @@ ghost use Rattle.std.specs.Prelude.{◌≡◌, ◌≤◌, length};
 ghost use Rattle.script_table.specs.Read.{read};
 ghost use Rattle.script_table.specs.Table.{patterns};
 ghost use Rattle.script_writer.specs.Canon.{canon};
-ghost use Rattle.tool_answers.specs.Answer.{Told, SinkFaults, upgraded_answer, upgrade_answer};
+ghost use Rattle.tool_answers.specs.Answer.{GivesAnswer, upgraded_answer, upgrade_answer};
 
 use crate::generated::put_script;
 use parts_io::Sink;
@@ -14,9 +14,7 @@ use tool_answers::{SCRIPT_LIMIT, Status, put_text, refused_line};
 
 // Writes the canonical text of a script, where a script may be as long. It takes no memory.
 fn put_upgraded<K: Sink>(script: &Script, sink: &mut K) -> Status
-    ensures told { Told result (upgraded_answer (canon script.now)) (K.text sink.old) (K.text sink.new) }
-    ensures faults { SinkFaults result (K.faults sink.old) (K.faults sink.new) }
-    ensures read { result ≡ Status.ReadFault → ⊥ }
+    ensures gives { GivesAnswer K.text K.faults (upgraded_answer (canon script.now)) result sink.old sink.new }
     ensures memory { result ≡ Status.OutOfMemory → ⊥ }
 {
     if canon_len(script) > SCRIPT_LIMIT {
@@ -28,10 +26,7 @@ fn put_upgraded<K: Sink>(script: &Script, sink: &mut K) -> Status
 /// Reads a script, and writes its canonical text as one of version 2.
 pub fn upgrade_text<K: Sink>(alloc: Global, text: &[u8], sink: &mut K) -> Status
     requires short { length text.now ≤ 1_048_576 }
-    ensures told { Told result (upgrade_answer (read patterns text.now)) (K.text sink.old) (K.text sink.new) }
-    ensures faults { SinkFaults result (K.faults sink.old) (K.faults sink.new) }
-    ensures read { result ≡ Status.ReadFault → ⊥ }
-    ensures unchanged { result ≡ Status.OutOfMemory → sink.new ≡ sink.old }
+    ensures { GivesAnswer K.text K.faults (upgrade_answer (read patterns text.now)) result sink.old sink.new }
 {
     match read_script(alloc, text) {
         Ok(script) => {

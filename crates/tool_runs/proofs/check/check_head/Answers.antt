@@ -12,5 +12,5 @@ check_script-requires-clause-runnable g c = accepted_can_be_run c.args.head.now 
 pub check_script-requires-clause-well_formed : goal.check_script-requires-clause-well_formed
 check_script-requires-clause-well_formed g c = accepted_is_well_formed c.args.head.now c.in-Ok.script c.in-Ok.ensures.script
 
-pub returns-in-Err-clause-told : goal.returns-in-Err-clause-told
-returns-in-Err-clause-told g c = c.refuse.ensures.told (read patterns c.args.head.now) c.in-Err.ensures.refusal (compared_answer c.args.horizon c.args.have.now) (λ f. refl)
+pub returns-in-Err : goal.returns-in-Err
+returns-in-Err g c = c.refuse.ensures (read patterns c.args.head.now) c.in-Err.ensures.refusal (compared_answer c.args.horizon c.args.have.now) (λ f. refl)

@@ -24,5 +24,5 @@ returns-in-Ok-clause-busy g c script is =
     subst (λ (x : Script). c.tell_shown.new.steps ≤ c.args.steps.now + busy_between x 0 c.args.horizon + 1)
     (same_script c.in-Ok.script script (read patterns c.args.text.now) c.in-Ok.ensures.script is) c.tell_shown.ensures.busy
 
-pub returns-in-Err-clause-told : goal.returns-in-Err-clause-told
-returns-in-Err-clause-told g c = c.refuse.ensures.told (read patterns c.args.text.now) c.in-Err.ensures.refusal (show_answer c.args.horizon) (λ f. refl)
+pub returns-in-Err-clause-gives : goal.returns-in-Err-clause-gives
+returns-in-Err-clause-gives g c = c.refuse.ensures (read patterns c.args.text.now) c.in-Err.ensures.refusal (show_answer c.args.horizon) (λ f. refl)
