@@ -2,15 +2,17 @@
 from __future__ import annotations
 
 from bisect import bisect_right
+from collections.abc import Iterable
 from dataclasses import dataclass
-from itertools import pairwise
+from textwrap import wrap
 
 from .axis import nice_step, parts_of
 from .timeline import MarkKind, Span, State, ThreadLine, Timeline
 
 DEFAULT_WIDTH = 100
-LEAST_WIDTH = 40
-CUT = "//"
+# So many columns the axis has at least, beside the names.
+LEAST_WIDTH = 20
+CUT, KILLED, IDLE = "//", "X", "i"
 LETTERS = "ABCDEFGHIJKLMNOPQRSTUVWXYZ"
 MOST_MARK_ROWS = 4
 
@@ -30,6 +32,8 @@ SIGNS: dict[tuple[State, str], tuple[str, str]] = {
 FRAMES = {False: ("*", "in a signal handler"), True: ("_", "in a cleanup handler")}
 OWNERS = "123456789abcdefghijklmnopqrstuvwxyz" + LETTERS
 UNSHOWN, OTHER = "+", "@"
+# A space at which no line is broken.
+BOUND = "\u00a0"
 
 
 @dataclass(frozen=True, slots=True)
@@ -101,19 +105,42 @@ def letters_of(priorities: list[int]) -> dict[int, str]:
     return {priority: LETTERS[min(at, 25)] for at, priority in enumerate(priorities)}
 
 
+def wrapped(text: str, width: int) -> list[str]:
+    """A line of words on as many lines as it needs, those behind the first a little to the right."""
+    return wrap(text, width, subsequent_indent="  ", break_on_hyphens=False)
+
+
+def listed(what: str, items: list[str], width: int) -> list[str]:
+    """What is told by several items: each stands whole on one line, where that has room for it."""
+    whole = [item.replace(" ", BOUND) if len(item) + 3 <= width else item for item in items]
+    return [line.replace(BOUND, " ") for line in wrapped(what + ", ".join(whole), width)]
+
+
 def sign_of(span: Span) -> tuple[str, str]:
     """The sign of a stretch in which the thread does not run, and what it says."""
     return SIGNS[span.state, span.kind]
 
 
+def filled(columns: Columns, stretches: Iterable[tuple[int, int, str]]) -> str:
+    """A row with the sign of each stretch in its columns."""
+    row = [" "] * columns.count
+    for start, end, sign in stretches:
+        for column in range(columns.of(start), columns.of(end - 1) + 1):
+            row[column] = sign
+    return torn(row, columns)
+
+
+def torn(row: list[str], columns: Columns) -> str:
+    """A row with its cuts."""
+    for cut in columns.cuts:
+        row[cut.column:cut.column + len(CUT)] = CUT
+    return "".join(row).rstrip()
+
+
 def frames_row(thread: ThreadLine, columns: Columns) -> list[str]:
     """A row that says where the thread is in a handler, if it ever is."""
-    row = [" "] * columns.count
-    for span in thread.spans:
-        if span.frame:
-            for column in range(columns.of(span.start), columns.of(span.end - 1) + 1):
-                row[column] = FRAMES[span.cleanup][0]
-    return ["".join(row).rstrip()] if any(span.frame for span in thread.spans) else []
+    frames = [(span.start, span.end, FRAMES[span.cleanup][0]) for span in thread.spans if span.frame]
+    return [filled(columns, frames)] if frames else []
 
 
 def owner_signs(timeline: Timeline) -> dict[str, str]:
@@ -125,31 +152,25 @@ def owner_signs(timeline: Timeline) -> dict[str, str]:
     return {name: OWNERS[at] if at < len(OWNERS) else OTHER for at, name in enumerate(names)}
 
 
-def owners_told(timeline: Timeline) -> str:
-    """The line of the legend that says whose each sign is."""
+def owners_told(timeline: Timeline) -> list[str]:
+    """Whose each sign is, for the legend."""
     signs = owner_signs(timeline)
     told = [f"{sign} {name}" for name, sign in signs.items() if sign != OTHER]
     if len(told) < len(signs):
         told.append(f"{OTHER} one of {len(signs) - len(told)} more")
     if any(owner not in signs for mutex in timeline.mutexes for _, _, owner, _ in mutex.bars):
         told.append(f"{UNSHOWN} a thread that is not shown")
-    return f"owners: {', '.join(told)}"
+    return told
 
 
 def owner_rows(timeline: Timeline, columns: Columns) -> list[tuple[str, str]]:
     """For each mutex its name, and the sign of its owner in each column."""
     signs = owner_signs(timeline)
-    rows = []
-    for mutex in timeline.mutexes:
-        row = [" "] * columns.count
-        for start, end, owner, _ in mutex.bars:
-            for column in range(columns.of(start), columns.of(end - 1) + 1):
-                row[column] = signs.get(owner, UNSHOWN)
-        rows.append((mutex.name, "".join(row).rstrip()))
-    return rows
+    return [(mutex.name, filled(columns, ((start, end, signs.get(owner, UNSHOWN)) for start, end, owner, _ in mutex.bars)))
+            for mutex in timeline.mutexes]
 
 
-def list_lines(timeline: Timeline) -> list[str]:
+def list_lines(timeline: Timeline, width: int) -> list[str]:
     """The lists at each instant at which one changes, the highest first, each with its head first."""
     priorities = sorted(map(int, timeline.facts.subjects("list")), reverse=True)
     times = sorted({time for priority in priorities for time, _ in timeline.facts.changes("list", str(priority))
@@ -157,7 +178,8 @@ def list_lines(timeline: Timeline) -> list[str]:
     lines = ["lists, head first:"] if times else []
     for time in times:
         members = [(priority, timeline.facts.at("list", str(priority), time)) for priority in priorities]
-        lines.append(f"  {time}: " + (", ".join(f"{priority} {' '.join(names)}" for priority, names in members if names) or "all empty"))
+        told = [f"{priority} {' '.join(names)}" for priority, names in members if names] or ["all empty"]
+        lines += [f"  {line}" for line in listed(f"{time}: ", told, width - 2)]
     return lines
 
 
@@ -180,9 +202,7 @@ def state_row(thread: ThreadLine, columns: Columns, letters: dict[int, str]) -> 
     for column, ticks in ran.items():
         letter = letters[best[column]]
         row[column] = letter if ticks >= columns.whole_ticks(column) else letter.lower()
-    for cut in columns.cuts:
-        row[cut.column:cut.column + len(CUT)] = CUT
-    return "".join(row).rstrip()
+    return torn(row, columns)
 
 
 def _ticks_in(span: Span, columns: Columns, column: int, first: int, last: int) -> int:
@@ -213,8 +233,8 @@ def mark_rows(thread: ThreadLine, columns: Columns) -> list[str]:
     return rows
 
 
-def ruler(columns: Columns) -> tuple[str, str]:
-    """Two rows: numbers of ticks, and a point for each column with a stroke at those that have their number."""
+def ruler(columns: Columns, killed: int | None) -> tuple[str, str]:
+    """Two rows: numbers of ticks, and a point for each column with a stroke at those that have their number, and a cross at a kill."""
     numbers, strokes = [" "] * (columns.count + 24), ["."] * columns.count
     free = 0
     for part in columns.parts:
@@ -231,32 +251,49 @@ def ruler(columns: Columns) -> tuple[str, str]:
                 if column >= free and (edge or column + len(text) <= part.column + part.columns):
                     numbers[column:column + len(text)] = text
                     free = column + len(text) + 1
+    if killed is not None:
+        strokes[columns.of(killed)] = KILLED
     return "".join(numbers).rstrip(), "".join(strokes)
 
 
-def legend(timeline: Timeline, columns: Columns, letters: dict[int, str]) -> list[str]:
+def legend(timeline: Timeline, columns: Columns, letters: dict[int, str], width: int) -> list[str]:
+    """What each sign of the picture is: of those alone that it has."""
+    lines = _priorities_told(letters, width)
+    told = signs_told(timeline, columns)
+    if told:
+        lines += listed("", told, width)
+    if timeline.mutexes:
+        lines += listed("owners: ", owners_told(timeline), width)
+    kinds = {mark.kind for thread in timeline.threads for mark in thread.marks}
+    marks = [f"{sign} {what}" for kind, (sign, what) in MARKS.items() if kind in kinds]
+    if marks:
+        lines += listed("marks: ", marks, width)
+    if timeline.killed is not None:
+        lines += wrapped(f"{KILLED} in the ruler: {timeline.killed.signal} kills the process", width)
+    for cut in columns.cuts:
+        lines += wrapped(f"{CUT} the axis is cut: nothing happens from {cut.start} to {cut.end}, {cut.end - cut.start} ticks", width)
+    return lines
+
+
+def _priorities_told(letters: dict[int, str], width: int) -> list[str]:
     priorities = sorted(letters, reverse=True)
     shown = [f"{letters[p]} {p}" for p in priorities[:25]]
     if len(priorities) > 25:
         shown.append(f"Z {priorities[25]} and below")
-    kinds = {mark.kind for thread in timeline.threads for mark in thread.marks}
-    lines = [f"priority: {', '.join(shown)}" if shown else "no thread ran"]
+    return listed("priority: ", shown, width) if shown else ["no thread ran"]
+
+
+def signs_told(timeline: Timeline, columns: Columns) -> list[str]:
+    """What stands where no letter does, and what a small letter is."""
     spans = [span for thread in timeline.threads for span in thread.spans]
     signs = {sign_of(span) for span in spans if span.state is not State.RUNNING}
     frames = {FRAMES[span.cleanup] for span in spans if span.frame}
     told = [f"{sign} {what}" for sign, what in (*SIGNS.values(), *FRAMES.values()) if (sign, what) in signs | frames]
+    if timeline.idle:
+        told.append(f"{IDLE} the processor is idle")
     if columns.step > 1:
         told.append("a small letter: it runs in a part of the column")
-    if told:
-        lines.append(", ".join(told))
-    if timeline.mutexes:
-        lines.append(owners_told(timeline))
-    marks = [f"{sign} {what}" for kind, (sign, what) in MARKS.items() if kind in kinds]
-    if marks:
-        lines.append(f"marks: {', '.join(marks)}")
-    for cut in columns.cuts:
-        lines.append(f"{CUT} the axis is cut: nothing happens from {cut.start} to {cut.end}, {cut.end - cut.start} ticks")
-    return lines
+    return told
 
 
 def heading(timeline: Timeline, columns: Columns) -> str:
@@ -274,22 +311,17 @@ def draw(timeline: Timeline, width: int | None = None, lists: bool = False) -> s
     """The time line, at most `width` columns wide, the threads' names among them."""
     names = [thread.name for thread in timeline.threads] + [mutex.name for mutex in timeline.mutexes]
     gutter = max([4, *map(len, names)]) + 1
-    columns = Columns(timeline, max(LEAST_WIDTH, (width or DEFAULT_WIDTH) - gutter))
+    width = max(gutter + LEAST_WIDTH, width or DEFAULT_WIDTH)
+    columns = Columns(timeline, width - gutter)
     letters = letters_of(timeline.priorities)
-    numbers, strokes = ruler(columns)
-    rows = [heading(timeline, columns), "tick".ljust(gutter) + numbers, " " * gutter + strokes]
+    numbers, strokes = ruler(columns, timeline.killed.time if timeline.killed is not None else None)
+    rows = [*wrapped(heading(timeline, columns), width), "tick".ljust(gutter) + numbers, " " * gutter + strokes]
     for thread in timeline.threads:
         rows.append(thread.name.ljust(gutter) + state_row(thread, columns, letters))
         rows += [" " * gutter + row for row in frames_row(thread, columns)]
         rows += [" " * gutter + row for row in mark_rows(thread, columns)]
     if timeline.idle:
-        row = [" "] * columns.count
-        for start, end in timeline.idle:
-            for column in range(columns.of(start), columns.of(end - 1) + 1):
-                row[column] = "i"
-        for before, after in pairwise([(0, 0)] + [(c.column, c.column + len(CUT)) for c in columns.cuts]):
-            row[after[0]:after[1]] = CUT
-        rows.append("idle".ljust(gutter) + "".join(row).rstrip())
+        rows.append("idle".ljust(gutter) + filled(columns, ((start, end, IDLE) for start, end in timeline.idle)))
     rows += [name.ljust(gutter) + row for name, row in owner_rows(timeline, columns)]
-    told = legend(timeline, columns, letters) + (["", *list_lines(timeline)] if lists else [])
+    told = legend(timeline, columns, letters, width) + (["", *list_lines(timeline, width)] if lists else [])
     return "\n".join(line.rstrip() for line in rows + [""] + told) + "\n"

@@ -33,7 +33,7 @@ a    AAA...//...AAA
 idle    iii//iii   iiiiiii
 
 priority: A 5
-. waiting
+. waiting, i the processor is idle
 marks: > start, x exit
 // the axis is cut: nothing happens from 6 to 997, 991 ticks
 """
@@ -48,25 +48,31 @@ def rows(timeline: Timeline, width: int | None = None) -> list[str]:
     return draw(timeline, width).splitlines()[3:]
 
 
+def legend(timeline: Timeline, width: int) -> list[str]:
+    """What stands behind the rows and an empty line."""
+    lines = draw(timeline, width).splitlines()
+    return lines[lines.index("") + 1:]
+
+
 class Signs(unittest.TestCase):
     def test_each_state_has_its_sign(self) -> None:
         spans = [Span(0, 1, RUN, 7), Span(1, 2, READY), *(Span(at, at + 1, WAIT, kind=kind) for at, kind in enumerate(KINDS, 2)), Span(10, 11, OFF)]
-        self.assertEqual(rows(seen(spans, 11)), [
+        self.assertEqual(rows(seen(spans, 11), 200), [
             "a    A-..#~%=!:?", "", "priority: A 7",
             "- ready, . waiting, . sleeping, # waiting for a mutex, ~ for a condition, % for a semaphore, = for a queue, ! for a signal, "
             ": for a thread to end, ? not running and no more is told"])
 
     def test_only_what_is_there_is_said(self) -> None:
         self.assertEqual(rows(seen([], 3)), ["a", "", "no thread ran"])
-        self.assertEqual(rows(seen([Span(0, 2, RUN, 7)], 3, idle=[(2, 3)])), ["a    AA", "idle   i", "", "priority: A 7"])
+        self.assertEqual(rows(seen([Span(0, 2, RUN, 7)], 3, idle=[(2, 3)])), ["a    AA", "idle   i", "", "priority: A 7", "i the processor is idle"])
 
     def test_letters_of_many_priorities(self) -> None:
         """A to Z; from the 26th on there is Z alone."""
         for count, letter, told in ((25, "Y", "Y 1"), (26, "Z", "Z 1 and below"), (30, "Z", "Z 5 and below")):
             timeline = seen([Span(at, at + 1, RUN, at + 1) for at in range(count)], count)
             self.assertEqual((letters_of(timeline.priorities)[1], letters_of(timeline.priorities)[count]), (letter, "A"))
-            self.assertTrue(rows(timeline)[-1].endswith(told), count)
-            self.assertTrue(rows(timeline)[-1].startswith(f"priority: A {count}, B {count - 1}, "), count)
+            self.assertTrue(rows(timeline, 300)[-1].endswith(told), count)
+            self.assertTrue(rows(timeline, 300)[-1].startswith(f"priority: A {count}, B {count - 1}, "), count)
 
     def test_handlers_have_a_row(self) -> None:
         spans = [Span(0, 2, RUN, 7), Span(2, 5, RUN, 7, frame="h"), Span(5, 6, READY, frame="u", cleanup=True)]
@@ -83,7 +89,7 @@ class Signs(unittest.TestCase):
     def test_what_each_mark_is(self) -> None:
         told = "marks: > start, x exit, c cancel, s deliver, e an error is returned, k the clock is set, ^ activate, ! exhaust, p plan, + refill, " \
                "r release of a job, L a deadline is missed"
-        self.assertEqual(rows(seen([], 20, [Mark(at, kind, "", 0) for at, kind in enumerate(reversed(MarkKind))]))[-1], told)
+        self.assertEqual(rows(seen([], 20, [Mark(at, kind, "", 0) for at, kind in enumerate(reversed(MarkKind))]), 200)[-1], told)
 
     def test_owners(self) -> None:
         threads = [ThreadLine("a"), ThreadLine("b")]
@@ -91,7 +97,7 @@ class Signs(unittest.TestCase):
         timeline = Timeline(threads, 8, [], None, True, Trace([], []), mutexes=mutexes)
         self.assertEqual(rows(timeline), ["a", "b", "m     222  1", "nn   +", "", "no thread ran", "owners: 1 a, 2 b, + a thread that is not shown"])
         timeline.mutexes = mutexes[:1]
-        self.assertEqual(owners_told(timeline), "owners: 1 a, 2 b")
+        self.assertEqual(owners_told(timeline), ["1 a", "2 b"])
 
 
 class ManyTicks(unittest.TestCase):
@@ -101,8 +107,8 @@ class ManyTicks(unittest.TestCase):
         spans = [Span(0, 5, RUN, 9), Span(5, 7, RUN, 3), Span(7, 12, READY), Span(12, 20, RUN, 3), Span(20, 30, WAIT, kind="sleep"), Span(30, 31, RUN, 3),
                  Span(31, 32, RUN, 9), Span(32, 100, READY)]
         self.assertEqual(draw(seen(spans, 100, idle=[(22, 24)]), 45).splitlines(), [
-            "ticks 0 to 100, a column is 5 ticks; idle for 2", "tick 0         50", "     |.........|..........", "a    AbbB..a-------------", "idle     i", "",
-            "priority: A 9, B 3", "- ready, . sleeping, a small letter: it runs in a part of the column"])
+            "ticks 0 to 100, a column is 5 ticks; idle for", "  2", "tick 0         50", "     |.........|..........", "a    AbbB..a-------------", "idle     i",
+            "", "priority: A 9, B 3", "- ready, . sleeping, i the processor is idle,", "  a small letter: it runs in a part of the", "  column"])
 
     def test_the_last_column_may_be_a_part(self) -> None:
         """Of 98 ticks it has three, and who runs in all of them has all of it."""
@@ -139,12 +145,73 @@ class Ruler(unittest.TestCase):
     def test_a_cut_drawn_by_hand(self) -> None:
         self.assertEqual(draw(timeline_of_text(CUT)), CUT_TEXT)
 
+    def test_each_row_has_the_cut(self) -> None:
+        """Who owns a mutex, or is in a handler, does so on both sides of the cut that CUT has."""
+        timeline = timeline_of_text(CUT)
+        timeline.mutexes = [Owned("m", [(2, 1001, "a", 0)]), Owned("n", [])]
+        timeline.threads[0].spans[0].frame = "h"
+        told = draw(timeline).splitlines()
+        self.assertEqual([told[at] for at in (4, 7, 8)], ["     ***   //", "m      1111//1111", "n          //"])
+
+
+class Narrow(unittest.TestCase):
+    """Where a line that tells something has no room, it goes on below, two columns to the right."""
+
+    def test_an_item_is_not_torn(self) -> None:
+        """`- ready, . sleeping` are 19 letters, and with `, # waiting for a mutex` 42."""
+        spans = [Span(0, 1, RUN, 7), Span(1, 2, READY), Span(2, 3, WAIT, kind="sleep"), Span(3, 4, WAIT, kind="mutex")]
+        for width, told in ((42, ["- ready, . sleeping, # waiting for a mutex"]), (41, ["- ready, . sleeping,", "  # waiting for a mutex"])):
+            self.assertEqual(legend(seen(spans, 4), width), ["priority: A 7", *told])
+
+    def test_what_is_longer_than_a_line_is_told_on_several(self) -> None:
+        timeline = seen([Span(0, 50, RUN, 7)], 50)
+        timeline.title = "a_name_of_thirty_five_letters_in_all"
+        self.assertEqual(draw(timeline, 25).splitlines(), [
+            "a_name_of_thirty_five_let", "  ters_in_all: ticks 0 to", "  50, a column is 5", "  ticks; idle for 0", "tick 0    25", "     |....|.....",
+            "a    AAAAAAAAAA", "", "priority: A 7", "a small letter: it runs", "  in a part of the column"])
+
+    def test_each_line_of_the_legend(self) -> None:
+        threads = [ThreadLine(name, [Span(at, at + 1, RUN, at + 1)], marks=[Mark(at, kind, "", 0)])
+                   for at, (name, kind) in enumerate(zip(("one", "two", "three", "four"), MarkKind))]
+        timeline = Timeline(threads, 9, [], None, True, Trace([], []), mutexes=[Owned("m", [(0, 1, "one", 0)])])
+        self.assertEqual(legend(timeline, 26), [
+            "priority: A 4, B 3, C 2,", "  D 1", "owners: 1 one, 2 two,", "  3 three, 4 four", "marks: > start, x exit,", "  e an error is returned"])
+
+    def test_no_line_is_wider_than_it_is_asked_for(self) -> None:
+        """The axis has twenty columns at least, beside names of four letters and a space."""
+        spans = [Span(at, at + 1, WAIT, kind=kind) for at, kind in enumerate(KINDS)]
+        marks = [Mark(at, kind, "", 0) for at, kind in enumerate(MarkKind)]
+        for width in range(1, 120):
+            lines = draw(seen([*spans, Span(8, 9, RUN, 7, frame="h")], 90, marks, idle=[(20, 30)]), width).splitlines()
+            self.assertLessEqual(max(map(len, lines)), max(width, 25), width)
+
+    def test_lists(self) -> None:
+        """Of six threads with one list each; `3: 9 a, 8 b, 7 c, 6 d` are 22 letters, and stand two to the right."""
+        facts = "".join(f"3 list {9 - at} {name}\n" for at, name in enumerate("abcdef"))
+        timeline = timeline_of_text(f"0 idle\n{facts}9 end\n")
+        told = draw(timeline, 25, lists=True).splitlines()
+        self.assertEqual(told[told.index("lists, head first:") + 1:], ["  3: 9 a, 8 b, 7 c, 6 d,", "    5 e, 4 f"])
+
+
+class Kill(unittest.TestCase):
+    TRACE = "0 start a\n0 dispatch a 5\n{0} return a kill 0 0\n{0} killed rt1\n{0} end\nthread a ticks {0}\n"
+
+    def test_a_cross_in_the_ruler(self) -> None:
+        """At the instant of the kill, behind the last tick, where a stroke may stand too."""
+        for end, ruler in ((5, "|....X"), (10, "|....|....X"), (20, "|.........|.........X")):
+            told = draw(timeline_of_text(self.TRACE.format(end))).splitlines()
+            self.assertEqual((told[2][5:], told[-1]), (ruler, "X in the ruler: rt1 kills the process"))
+
+    def test_no_cross_where_nothing_is_killed(self) -> None:
+        told = draw(seen([Span(0, 5, RUN, 7)], 5)).splitlines()
+        self.assertEqual((told[2], told[-1]), ("     |.....", "priority: A 7"))
+
 
 class Heading(unittest.TestCase):
     def test_what_it_says(self) -> None:
         timeline = seen([], 9, idle=[(2, 4), (5, 8)])
         timeline.title, timeline.tick, timeline.start, timeline.finished = "one", "5us", 2, False
-        self.assertEqual(draw(timeline).splitlines()[0], "one: ticks 2 to 9, a column is one tick; idle for 5; the trace has no end; a tick is 5us")
+        self.assertEqual(draw(timeline, 200).splitlines()[0], "one: ticks 2 to 9, a column is one tick; idle for 5; the trace has no end; a tick is 5us")
         killed = timeline_of_text("0 start a\n0 dispatch a 5\n5 return a kill 0 0\n5 killed rt1\n5 end\nthread a ticks 5\n")
         self.assertEqual(draw(killed).splitlines()[0], "ticks 0 to 5, a column is one tick; idle for 0; killed by rt1")
 
