@@ -2,7 +2,7 @@
 from __future__ import annotations
 
 from .axis import Axis
-from .svg_marks import draw_mark
+from .svg_marks import RED, draw_mark
 from .svg_objects import CONTENDED, OWNER, has_shares, too_many
 from .svg_spans import draw_frame_sample, draw_low_sample, draw_wait_sample, is_dense
 from .svg_writer import FAINT, INK, Writer
@@ -49,6 +49,8 @@ def draw_legend(out: Writer, timeline: Timeline, axis: Axis, colours: dict[int, 
         at = flow.room(len(WHAT[kind]), 14)
         draw_mark(out, kind, at + (3 if kind is MarkKind.LATE else 5), flow.y - 4, 4)
         out.text(at + 14, flow.y, WHAT[kind], size=10.5, fill=INK)
+    if timeline.killed is not None:
+        _killed(out, flow, timeline.killed.signal)
     if any(thread.is_sporadic for thread in timeline.threads):
         _item(out, flow, "blue line: the server's capacity; dashed arrow: from a plan to its due tick", FAINT)
     if axis.cuts:
@@ -59,6 +61,13 @@ def draw_legend(out: Writer, timeline: Timeline, axis: Axis, colours: dict[int, 
 def _item(out: Writer, flow: _Flow, text: str, fill: str) -> None:
     at = flow.room(len(text), 0)
     out.text(at, flow.y, text, size=10.5, fill=fill)
+
+
+def _killed(out: Writer, flow: _Flow, signal: str) -> None:
+    text = f"{signal} kills the process"
+    at = flow.room(len(text), 14)
+    out.line(at + 5, flow.y - 10, at + 5, flow.y + 1, stroke=RED, stroke_width="2")
+    out.text(at + 14, flow.y, text, size=10.5, fill=INK)
 
 
 def _priorities(out: Writer, flow: _Flow, colours: dict[int, tuple[str, str]]) -> None:

@@ -6,7 +6,7 @@ from dataclasses import dataclass
 from .axis import Axis
 from .svg_axis import HEIGHT as AXIS_HEIGHT
 from .svg_axis import draw_cut_edges
-from .svg_marks import Marks, draw_marks, place_marks
+from .svg_marks import RED, Marks, draw_marks, place_marks
 from .svg_objects import HEIGHT as MUTEX_HEIGHT
 from .svg_objects import LIST, draw_list, draw_mutex, draw_wakes, list_priorities
 from .svg_server import draw_server
@@ -85,7 +85,7 @@ class Rows:
         draw_cut_edges(out, self._axis, self.top, self.bottom)
         if self._timeline.killed is not None:
             place = self._axis.at(self._timeline.killed.time)
-            out.line(place, self.top - 6, place, self.bottom, stroke="#c21f1f", stroke_width="2",
+            out.line(place, self.top - 6, place, self.bottom, stroke=RED, stroke_width="2",
                      title=f"{self._timeline.killed.time} killed {self._timeline.killed.signal}")
 
     def _draw_row(self, out: Writer, thread: ThreadLine, marks: Marks, y: float, bar: float) -> None:

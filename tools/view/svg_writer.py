@@ -8,11 +8,13 @@ INK, FAINT, PALE = "#1d2433", "#69707d", "#e3e6eb"
 
 _PATTERNS = """<defs>
 <pattern id="low" width="6" height="6" patternUnits="userSpaceOnUse" patternTransform="rotate(45)"><rect width="2.4" height="6" fill="#ffffff" fill-opacity="0.6"/></pattern>
-<pattern id="wait" width="5" height="5" patternUnits="userSpaceOnUse"><circle cx="1.5" cy="2.5" r="0.9" fill="#8a93a3"/></pattern>
 <marker id="head" viewBox="0 0 8 8" refX="7" refY="4" markerWidth="6" markerHeight="6" orient="auto"><path d="M0,0 L8,4 L0,8 z" fill="#3b6fb5"/></marker>
 <marker id="wake" viewBox="0 0 8 8" refX="7" refY="4" markerWidth="6" markerHeight="6" orient="auto"><path d="M0,0 L8,4 L0,8 z" fill="#5c6675"/></marker>
 </defs>
 """
+
+# A picture by itself that is wider than the paper is made to fit; one within a page is as that page says.
+_STYLE = "<style>@media print{svg:root{max-width:100%;height:auto}}</style>\n"
 
 # How wide letters of the font are, at most, in parts of its size; every other one is narrower than OTHER.
 OTHER = 0.64
@@ -67,5 +69,5 @@ class Writer:
     def document(self, width: float, height: float, title: str) -> str:
         size = f'width="{width:.0f}" height="{height:.0f}" viewBox="0 0 {width:.0f} {height:.0f}"'
         return (f'<svg xmlns="http://www.w3.org/2000/svg" {size} font-family="{FONT}" role="img">\n'
-                f"<title>{escape(title)}</title>\n{_PATTERNS}"
+                f"<title>{escape(title)}</title>\n{_STYLE}{_PATTERNS}"
                 f'<rect width="100%" height="100%" fill="#ffffff"/>\n{"".join(self._parts)}</svg>\n')

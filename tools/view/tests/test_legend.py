@@ -7,7 +7,7 @@ import xml.etree.ElementTree as ElementTree
 from view.axis import Axis
 from view.colours import colours_of
 from view.kinds import CLEANUP, COLOURS, HANDLER
-from view.lines import Trace
+from view.lines import Killed, Trace
 from view.svg_legend import WHAT, draw_legend
 from view.svg_objects import CONTENDED, OWNER
 from view.svg_writer import Writer
@@ -18,8 +18,8 @@ SVG = "{http://www.w3.org/2000/svg}"
 WHOLE = Axis([0, 40], 100, 400, 34, 6)
 
 
-def seen(spans: list[Span], marks: list[Mark] = [], **more) -> Timeline:
-    return Timeline([ThreadLine("a", spans, marks=marks)], 40, [], None, True, Trace([], []), **more)
+def seen(spans: list[Span], marks: list[Mark] = [], killed: Killed | None = None, **more) -> Timeline:
+    return Timeline([ThreadLine("a", spans, marks=marks)], 40, [], killed, True, Trace([], []), **more)
 
 
 def drawn(timeline: Timeline, axis: Axis = WHOLE, width: float = 900) -> tuple[ElementTree.Element, float]:
@@ -104,6 +104,16 @@ class Legend(unittest.TestCase):
         root = drawn(seen([], marks))[0]
         self.assertEqual([text.text for text in root.iter(f"{SVG}text")], [WHAT[kind] for kind in (MarkKind.START, MarkKind.EXIT, MarkKind.LATE)])
         self.assertEqual([path.get("class") for path in root.iter(f"{SVG}path") if path.get("class")], ["mark start", "mark exit", "mark late"])
+
+    def test_what_killed_it(self) -> None:
+        """An upright red line, as the one in the picture, in the middle of a mark's room, behind the marks."""
+        timeline = seen([], [Mark(1, MarkKind.EXIT, "", 0)], Killed(40, "rt1"))
+        self.assertEqual(texts(timeline), ["exit", "rt1 kills the process"])
+        root = drawn(timeline)[0]
+        text = next(text for text in root.iter(f"{SVG}text") if text.text == "rt1 kills the process")
+        (line,) = icon(root, text.text)
+        self.assertEqual((line["stroke"], line["stroke-width"]), ("#c21f1f", "2"))
+        self.assertEqual([float(line[name]) for name in ("x1", "x2", "y1", "y2")], [float(text.get("x")) - 9] * 2 + [float(text.get("y")) + y for y in (-10, 1)])
 
     def test_servers_and_cuts_and_wakes(self) -> None:
         server = seen([])
