@@ -3,6 +3,7 @@ from __future__ import annotations
 
 import json
 import os
+import re
 import socket
 import subprocess
 import sys
@@ -19,6 +20,7 @@ sys.path.append(str(TOOLS / "reference"))
 from lab.desk import Desk  # noqa: E402
 from lab.runs import NoRun, Sources, answer, run, trace_of  # noqa: E402
 from lab.server import Lab  # noqa: E402
+from view.html import SCRIPTS  # noqa: E402
 
 from .served import TOP, Served, alive  # noqa: E402
 
@@ -42,6 +44,14 @@ class Server(unittest.TestCase):
         self.assertNotIn("unsafe-eval", headers["Content-Security-Policy"])
         status, text, _ = self.lab.run(SCRIPT, form="trace")
         self.assertEqual((status, json.loads(text)), (200, {"text": "0 start a\n0 dispatch a 5\n4 exit a\n4 idle\n20 end\nthread a ticks 4\n"}))
+
+    def test_the_picture_loads_all_of_the_page_of_pse52_view_that_it_needs(self) -> None:
+        """All but the one that shows the run in that page, in the same order."""
+        page = self.lab.ask("GET", f"/{self.lab.token}/picture.html")[1].decode()
+        scripts = re.findall(r'<script src="(.*?)"', page)
+        self.assertEqual([name for name in scripts if "/" in name], [f"view/{name}" for name in SCRIPTS if name != "start.js"])
+        for name in scripts:
+            self.assertEqual(self.lab.ask("GET", f"/{self.lab.token}/{name}")[0], 200, name)
 
     def test_nothing_is_loaded_from_elsewhere(self) -> None:
         for name in ("", "lab.css", "lab.js", "picture.html", "picture.css", "mode.js", "editor.js", "runs.js"):

@@ -6,7 +6,7 @@ import re
 import unittest
 
 from view.colours import colours_of
-from view.html import PAGE, TOLD, data_of, draw
+from view.html import PAGE, SCRIPTS, TOLD, data_of, draw
 from view.kinds import CLEANUP, COLOURS, HANDLER
 from view.lines import Trace, read_trace
 from view.seen import timeline_of
@@ -104,6 +104,11 @@ class OfATrace(unittest.TestCase):
 
 
 class Written(unittest.TestCase):
+    def test_each_script_is_in_the_page(self) -> None:
+        self.assertEqual(sorted(SCRIPTS), sorted(path.name for path in PAGE.glob("*.js")))
+        page = draw(mutex())
+        self.assertEqual([page.count((PAGE / name).read_text(encoding="utf-8")) for name in SCRIPTS], [1] * len(SCRIPTS))
+
     def test_titles_and_data_are_no_marks(self) -> None:
         """What a title has cannot end the data or begin an element, and what looks like a place of the page is none."""
         seen = mutex()
