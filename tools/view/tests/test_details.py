@@ -168,7 +168,7 @@ class Owners(unittest.TestCase):
 
     def drawn(self, threads: int) -> str:
         bodies = (f"thread t{number} fifo 5 at {number * 3}\nlock m\nunlock m\nend\n" for number in range(threads))
-        return drawer("text")(seen_of(detail_of(f"mutex m none\n{''.join(bodies)}".encode(), 3 * threads + 1)), 300)
+        return drawer("text")(seen_of(detail_of(f"mutex m none\n{''.join(bodies)}".encode(), 3 * threads + 1)), 1000)
 
     def test_no_two_share_a_sign(self) -> None:
         told = next(line for line in self.drawn(50).splitlines() if line.startswith("owners: ")).removeprefix("owners: ").split(", ")
