@@ -13,6 +13,7 @@ from pathlib import Path
 WORKER = Path(__file__).with_name("worker.py")
 PANES = ("a", "b", "export")
 MOST_RUNS = 4  # at a time; another one waits for its turn
+CLOSED = "the page is closed"
 NEWER = "a newer run took its place; change something here to run this one again"
 
 
@@ -51,7 +52,7 @@ class Worker:
 
     def close(self) -> None:
         """Ends the process, and takes its end."""
-        self.stop("the page is closed")
+        self.stop(CLOSED)
         self._process.wait()
         for pipe in (self._process.stdin, self._process.stdout):
             try:
@@ -91,12 +92,13 @@ class Desk:
         self._places = threading.BoundedSemaphore(MOST_RUNS)
         self._free: list[Worker] = []
         self._busy: dict[tuple[str, str], Worker] = {}
+        self._is_closed = False
 
     def prepare(self) -> None:
         """Starts a worker before one is asked."""
-        worker = Worker()
         with self._guard:
-            self._free.append(worker)
+            if not self._is_closed:
+                self._free.append(Worker())
 
     def ask(self, tab: str, pane: str, request: Request) -> bytes:
         """The answer, as JSON. Raises Stopped."""
@@ -113,7 +115,9 @@ class Desk:
             return text
 
     def close(self) -> None:
+        """Ends the workers. No other one begins from then on."""
         with self._guard:
+            self._is_closed = True
             for worker in [*self._busy.values(), *self._free]:
                 worker.close()
 
@@ -123,6 +127,8 @@ class Desk:
 
     def _take(self, place: tuple[str, str]) -> Worker:
         with self._guard:
+            if self._is_closed:
+                raise Stopped(CLOSED)
             self._end_run(place)
             worker = self._free.pop() if self._free else Worker()
             self._busy[place] = worker

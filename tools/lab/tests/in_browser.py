@@ -5,7 +5,6 @@ With PSE52_SHOTS in the environment, the name of a folder, it keeps what the bro
 from __future__ import annotations
 
 import os
-import time
 import unittest
 from pathlib import Path
 
@@ -13,7 +12,19 @@ from lab.parts import CODEMIRROR, OF_CODEMIRROR
 from view.tests.readers import browser
 
 from .served import TOP, Served
+from .waiting import LONGEST, waited
 
+# Counts the runs that the page asks for, and those whose answer it has dealt with: what follows an answer has gone before a timer's turn.
+COUNTING = """if (window.asked === undefined) {
+  const fetched = window.fetch;
+  window.fetch = async (...words) => {
+    asked += 1;
+    const answer = await fetched(...words), read = answer.json.bind(answer);
+    answer.json = () => read().finally(() => setTimeout(() => { answered += 1; }));
+    return answer;
+  };
+}
+window.asked = window.answered = 0;"""
 INHERIT = (TOP / "examples" / "05_inherit.task").read_text()
 
 
@@ -33,7 +44,8 @@ class InBrowser(unittest.TestCase):
     def setUp(self) -> None:
         self.driver = browser(*self.size)
         self.addCleanup(self.driver.quit)
-        self.lab = Served("--seconds", "600", *self.words)
+        self.driver.set_script_timeout(LONGEST)
+        self.lab = Served(*self.words)
         self.addCleanup(self.lab.end)
         self.addCleanup(self.no_complaint)
 
@@ -49,16 +61,36 @@ class InBrowser(unittest.TestCase):
     def does(self, script: str, *words: object) -> object:
         return self.driver.execute_script(script, *words)
 
-    def until(self, script: str, wanted: object = True, seconds: float = 60) -> None:
-        ends = time.monotonic() + seconds
-        while (said := self.does(script)) != wanted:
-            if time.monotonic() > ends:
-                self.assertEqual(said, wanted, script)
-            time.sleep(0.03)
+    def until(self, script: str, wanted: object = True) -> None:
+        """Waits for what the script says. What it asks of a page that is not there yet, it asks again."""
+        from selenium.common.exceptions import JavascriptException
+
+        said: object = None
+
+        def is_wanted() -> bool:
+            nonlocal said
+            try:
+                said = self.does(script)
+            except JavascriptException as error:
+                said = error.msg
+            return said == wanted
+
+        try:
+            waited(is_wanted, script)
+        except AssertionError:
+            self.assertEqual(said, wanted, script)
+
+    def count_runs(self) -> None:
+        """From here on `until_answered` knows of each run that the page asks for."""
+        self.does(COUNTING)
+
+    def until_answered(self) -> None:
+        """Waits until the page has dealt with the answer to each run that it asked for."""
+        self.until("return asked > 0 && asked === answered")
 
     def shot(self, name: str) -> None:
         if "PSE52_SHOTS" in os.environ:
-            time.sleep(0.3)
+            self.driver.execute_async_script("requestAnimationFrame(() => requestAnimationFrame(() => setTimeout(arguments[0])))")
             self.driver.save_screenshot(str(Path(os.environ["PSE52_SHOTS"]) / f"{name}.png"))
 
     def press(self, *keys: str) -> None:

@@ -1,10 +1,10 @@
 """The page in a real browser: typing, the picture, the lists, refusals, the slider, a phone."""
 from __future__ import annotations
 
-import time
 from urllib.parse import quote
 
 from .in_browser import INHERIT, InBrowser
+from .waiting import waited
 
 
 class Page(InBrowser):
@@ -86,9 +86,9 @@ class Page(InBrowser):
         self.open("#example=20_controller")
         self.does("document.getElementById('beside').click()")
         self.until("return document.getElementById('differs').textContent", "The runs do not differ.")
+        self.count_runs()
         self.does(put, "2000", "2000x")
-        self.until("return performance.getEntriesByType('resource').some((entry) => entry.name.includes('horizon=2000&'))")
-        time.sleep(0.3)
+        self.until_answered()
         self.assertEqual(self.text("#state"), none)
         self.assertTrue(self.does("return document.body.classList.contains('stale')"))
         self.does(put, "")
@@ -110,7 +110,7 @@ class Page(InBrowser):
         self.driver.refresh()
         self.assertEqual(word(), mine)
         self.does("window.open(location.href)")
-        self.driver.switch_to.window(next(tab for tab in self.driver.window_handles if tab != first))
+        self.driver.switch_to.window(waited(lambda: next((tab for tab in self.driver.window_handles if tab != first), ""), "a copy of the tab"))
         self.assertNotEqual(word(), mine)
 
     def test_the_slider(self) -> None:
@@ -206,8 +206,7 @@ class PlainPage(Page):
         """At the end of a long script too, where the text has a scroll bar below it and the numbers have none."""
         self.open("#script=" + quote("# " + "long " * 60 + "\nthread a fifo 5 at 0\n" + "run 1\n" * 80 + "end\n"))
         self.does("const area = document.querySelector('#plain textarea'); area.scrollTop = area.scrollHeight")
-        self.until("const area = document.querySelector('#plain textarea'); return area.scrollTop > 0 && area.scrollTop === document.querySelector('#plain pre').scrollTop",
-                   seconds=3)
+        self.until("const area = document.querySelector('#plain textarea'); return area.scrollTop > 0 && area.scrollTop === document.querySelector('#plain pre').scrollTop")
 
 
 class Phone(InBrowser):

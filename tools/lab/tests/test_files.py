@@ -2,11 +2,11 @@
 from __future__ import annotations
 
 import tempfile
-import time
 from pathlib import Path
 
 from .in_browser import INHERIT, InBrowser
 from .served import TOP
+from .waiting import waited
 
 
 class Files(InBrowser):
@@ -19,11 +19,8 @@ class Files(InBrowser):
 
     def had(self, name: str) -> str:
         """What was saved under the name: chromium makes an empty file first, and renames the whole one to it."""
-        for _ in range(400):
-            if (self.folder / name).exists() and (text := (self.folder / name).read_text()):
-                return text
-            time.sleep(0.05)
-        raise AssertionError(f"{name} was not saved: {list(self.folder.iterdir())}")
+        file = self.folder / name
+        return waited(lambda: file.read_text() if file.exists() else "", f"{name} is saved")
 
     def test_a_script_too_long_for_an_address(self) -> None:
         """It is there again behind a reload and by the way back, and no link is made of it."""
@@ -62,4 +59,5 @@ class Files(InBrowser):
         self.lab.end()
         self.does("const menu = document.getElementById('export'); menu.value = 'trace'; menu.dispatchEvent(new Event('change'))")
         self.until("return document.getElementById('state').textContent", "the server does not answer: start bin/pse52-lab again, and give it this link")
-        self.assertEqual([entry["source"] for entry in self.driver.get_log("browser")], ["network"])
+        complaints = waited(lambda: self.driver.get_log("browser"), "the browser tells of the request")
+        self.assertEqual([entry["source"] for entry in complaints], ["network"])

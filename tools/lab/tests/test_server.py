@@ -9,7 +9,6 @@ import subprocess
 import sys
 import tempfile
 import threading
-import time
 import unittest
 from pathlib import Path
 from unittest import mock
@@ -17,23 +16,25 @@ from unittest import mock
 TOOLS = Path(__file__).resolve().parents[2]
 sys.path.append(str(TOOLS / "reference"))
 
-from lab.desk import Desk  # noqa: E402
+from lab.desk import NEWER, Desk, Request, Stopped  # noqa: E402
 from lab.runs import NoRun, Sources, answer, run, trace_of  # noqa: E402
 from lab.server import Lab  # noqa: E402
 from view.html import SCRIPTS  # noqa: E402
 
-from .served import TOP, Served, alive  # noqa: E402
+from .served import TOP, Served, alive, children_of  # noqa: E402
+from .waiting import LONGEST  # noqa: E402
 
 SCRIPT = b"thread a fifo 5 at 0\nrun 3\nend\n"
 # A run to that horizon takes any program many minutes, and tells nothing on its way. Where no program is here the reference is asked, which
 # goes tick by tick, and no further than that.
 LONG = b"thread a fifo 5 at 0\nforever\nrun 1\nend\nend\n"
 FAR = 10 ** 12 if Sources.found().program else 10 ** 7
+OVER = {"why": "the run took longer than 8 s and was ended; take a smaller horizon"}
 
 
 class Server(unittest.TestCase):
     def setUp(self) -> None:
-        self.lab = Served("--seconds", "4")
+        self.lab = Served()
         self.addCleanup(self.lab.end)
 
     def test_the_page_and_a_run(self) -> None:
@@ -99,36 +100,39 @@ class Server(unittest.TestCase):
         self.assertEqual(self.lab.run(SCRIPT, pane="c")[0], 400)
         self.assertEqual(self.lab.run(SCRIPT, form="show")[0], 400)
 
+    def short_runs_beside_a_long_one(self, lab: Served, of_long: str, of_short: str) -> tuple[list[dict[str, str]], dict[str, str]]:
+        """The answers to short runs of one tab, which are asked for again and again up to the answer to a long run of another, and that one."""
+        lab.run(SCRIPT)
+        answers: list[bytes] = []
+        long = threading.Thread(target=lambda: answers.append(lab.run(LONG, FAR, tab=of_long)[1]))
+        long.start()
+        short = [json.loads(lab.run(SCRIPT, form="trace", tab=of_short)[1])]
+        while long.is_alive():
+            short.append(json.loads(lab.run(SCRIPT, form="trace", tab=of_short)[1]))
+        long.join()
+        return short, json.loads(answers[0])
+
     def test_a_run_that_takes_too_long(self) -> None:
-        self.lab.run(SCRIPT)
-        began = time.monotonic()
-        status, text, _ = self.lab.run(LONG, FAR)
-        self.assertEqual((status, json.loads(text)), (200, {"why": "the run took longer than 4 s and was ended; take a smaller horizon"}))
-        self.assertLess(time.monotonic() - began, 40)
-        status, text, _ = self.lab.run(SCRIPT, form="trace")
+        lab = Served("--seconds", "8")
+        self.addCleanup(lab.end)
+        lab.run(SCRIPT)
+        status, text, _ = lab.run(LONG, FAR)
+        self.assertEqual((status, json.loads(text)), (200, OVER))
+        status, text, _ = lab.run(SCRIPT, form="trace")
         self.assertIn("4 exit a", json.loads(text)["text"])
 
     def test_a_newer_run_ends_the_one_before(self) -> None:
-        self.lab.run(SCRIPT)
-        answers: list[bytes] = []
-        older = threading.Thread(target=lambda: answers.append(self.lab.run(LONG, FAR)[1]))
-        older.start()
-        time.sleep(0.7)
-        self.assertIn("text", json.loads(self.lab.run(SCRIPT, form="trace")[1]))
-        older.join()
-        self.assertEqual(json.loads(answers[0]), {"why": "a newer run took its place; change something here to run this one again"})
+        short, long = self.short_runs_beside_a_long_one(self.lab, "one", "one")
+        self.assertEqual(long, {"why": NEWER})
+        self.assertIn("4 exit a", short[-1]["text"])  # the long run may have come later than the first of them
 
     def test_a_run_of_another_tab_is_left_alone(self) -> None:
-        """The long run of one tab comes to its own limit, and the short one of another has its answer meanwhile."""
-        self.lab.run(SCRIPT)
-        answers: list[bytes] = []
-        long = threading.Thread(target=lambda: answers.append(self.lab.run(LONG, FAR, tab="one")[1]))
-        long.start()
-        time.sleep(0.7)
-        self.assertIn("4 exit a", json.loads(self.lab.run(SCRIPT, form="trace", tab="two")[1])["text"])
-        self.assertEqual(answers, [])
-        long.join()
-        self.assertEqual(json.loads(answers[0]), {"why": "the run took longer than 4 s and was ended; take a smaller horizon"})
+        """The long run of one tab comes to its own limit, and the short ones of another have their answers meanwhile."""
+        lab = Served("--seconds", "8")
+        self.addCleanup(lab.end)
+        short, long = self.short_runs_beside_a_long_one(lab, "one", "two")
+        self.assertEqual([answer for answer in short if "4 exit a" not in answer.get("text", "")], [])
+        self.assertEqual(long, OVER)
 
     def test_many_tabs_have_few_workers(self) -> None:
         """Sixteen tabs ask at once: each has its answer, and no more than four workers and the two of the start are left."""
@@ -146,7 +150,7 @@ class Server(unittest.TestCase):
         lab = Lab(0, "token", {}, Desk(4))
         self.addCleanup(lab.server_close)
         for _ in range(16):
-            self.addCleanup(socket.create_connection(("127.0.0.1", lab.server_port), timeout=5).close)
+            self.addCleanup(socket.create_connection(("127.0.0.1", lab.server_port), timeout=LONGEST).close)
 
     def test_what_is_refused(self) -> None:
         _, text, _ = self.lab.run(b"thread a fifo 5 at 0\n    rum 3\nend\n")
@@ -162,7 +166,7 @@ class Server(unittest.TestCase):
                 os.close(writer)
                 writer = os.open(device, os.O_WRONLY)
             ended = subprocess.run([sys.executable, str(TOP / "bin" / "pse52-lab")], stdout=writer, stderr=subprocess.PIPE, text=True,
-                                   timeout=30, check=False)
+                                   timeout=LONGEST, check=False)
             os.close(writer)
             self.assertEqual((ended.returncode, ended.stderr), (5, said))
 
@@ -175,10 +179,19 @@ class Server(unittest.TestCase):
         self.assertEqual(lab.end(), 0)
         self.assertEqual([worker for worker in workers if alive(worker)], [])
 
+    def test_no_worker_begins_behind_the_end(self) -> None:
+        """Neither one that was to be there before it is asked, nor that of a run which waited for its turn."""
+        desk, before = Desk(600), children_of(os.getpid())
+        desk.close()
+        desk.prepare()
+        with self.assertRaisesRegex(Stopped, "the page is closed"):
+            desk.ask("", "a", Request(SCRIPT, 20, "trace", ""))
+        self.assertEqual(children_of(os.getpid()), before)
+
     def test_no_time_for_a_run(self) -> None:
         for word in ("0", "-3", "nan", "inf", "soon"):
             ended = subprocess.run([sys.executable, str(TOP / "bin" / "pse52-lab"), f"--seconds={word}"], capture_output=True, text=True,
-                                   timeout=60, check=False)
+                                   timeout=LONGEST, check=False)
             self.assertEqual((ended.returncode, ended.stdout), (1, ""), ended.stderr)
             self.assertIn(f"'{word}' gives no run the time to end", ended.stderr)
 

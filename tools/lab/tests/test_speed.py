@@ -1,4 +1,8 @@
-"""How soon the page shows what is typed, and how fluid a long run is."""
+"""How soon the page shows what is typed, and how fluid a long run is.
+
+What makes it so is judged by counts: of the runs that a key asks for, and of what a frame draws. The times themselves are told, and are judged
+only with PSE52_SPEED in the environment, on a machine that does nothing else.
+"""
 from __future__ import annotations
 
 import os
@@ -9,6 +13,13 @@ from .in_browser import InBrowser, has_codemirror
 
 # How long a picture may take from the last key on, and a frame while a long run is stepped through, in milliseconds.
 PICTURE, FRAME = 200, 100
+# How much a frame may draw: some things in each column of 3 pixels of the rows in sight, however long the run is.
+MOST_DRAWN = 20_000
+COUNTING_DRAWN = """window.drawn = 0;
+for (const name of ["fillRect", "strokeRect", "fillText", "lineTo", "fill", "stroke", "drawImage"]) {
+  const draws = CanvasRenderingContext2D.prototype[name];
+  CanvasRenderingContext2D.prototype[name] = function (...words) { window.drawn += 1; return draws.apply(this, words); };
+}"""
 KEYS = 5
 DRAWN = "return lab.drawn === document.querySelector('.CodeMirror').CodeMirror.getValue()"
 NAMES = "return fetch('about.json').then((said) => said.json()).then((about) => about.gallery.map((one) => one.name))"
@@ -35,7 +46,9 @@ class Speed(InBrowser):
         took = []
         for number in range(KEYS):
             before = self.in_frame("data.lines.join()", "a")
+            self.count_runs()
             self.press("7" if number % 2 == 0 else Keys.BACKSPACE)
+            self.assertEqual(self.does("return asked"), 1)  # at once, and not when some time has gone
             self.until(DRAWN)
             self.changes += self.in_frame("data.lines.join()", "a") != before
             took.append(float(str(self.does("return lab.latency"))))
@@ -50,7 +63,8 @@ class Speed(InBrowser):
         if "PSE52_SHOTS" in os.environ:
             rows = [f"{name:24} middle {median(took):5.0f} ms, least {min(took):5.0f}, greatest {max(took):5.0f}\n" for name, took in figures.items()]
             (Path(os.environ["PSE52_SHOTS"]) / f"{self.id().rpartition('.')[2]}.txt").write_text(f"{what}; load {load:.1f}\n" + "".join(rows))
-        self.assertLess(min(figures[least]), PICTURE)
+        if "PSE52_SPEED" in os.environ:
+            self.assertLess(min(figures[least]), PICTURE)
 
     def test_from_the_last_key_to_the_picture(self) -> None:
         self.open()
@@ -71,8 +85,11 @@ class Speed(InBrowser):
             self.choose(example)
             self.does("const code = document.querySelector('.CodeMirror').CodeMirror; code.focus(); code.setCursor(0, 999)")
             for _ in range(KEYS):
+                self.count_runs()
                 self.press(*"0123456789")
                 self.until(DRAWN)
+                self.until_answered()
+                self.assertLessEqual(self.does("return asked"), 10)
                 figures.setdefault(example, []).append(float(str(self.does("return lab.latency"))))
         self.judge("from the last of ten keys to the picture", figures)
 
@@ -81,16 +98,16 @@ class Speed(InBrowser):
         bodies = (f"thread t{number} sporadic {163 - number} 2 60 2 4 at {number}\nforever\nnanosleep 63\nend\nend\n" for number in range(64))
         self.open()
         self.does("document.getElementById('horizon').value = '41000'; document.querySelector('.CodeMirror').CodeMirror.setValue(arguments[0])", "".join(bodies))
-        self.until("return lab.drawn === document.querySelector('.CodeMirror').CodeMirror.getValue()", seconds=600)
+        self.until(DRAWN)
         lines, threads = self.in_frame("data.lines.length", "a"), self.in_frame("data.threads.length", "a")
         self.shot("long")
         self.assertEqual(threads, 64)
         self.assertGreaterEqual(lines, 100_000)
         self.driver.switch_to.frame("a")
-        self.driver.set_script_timeout(120)
+        self.driver.execute_script(COUNTING_DRAWN)
         frames = self.driver.execute_async_script("""const done = arguments[arguments.length - 1], took = {};
             const next = () => new Promise((go) => requestAnimationFrame(() => setTimeout(go)));
-            const timed = async (does, n) => { await next(); const began = performance.now(); does(n); await next(); return performance.now() - began; };
+            const timed = async (does, n) => { await next(); window.drawn = 0; const began = performance.now(); does(n); await next(); return [performance.now() - began, window.drawn]; };
             const measure = async (name, does) => { took[name] = []; for (let n = 0; n < 25; n++) took[name].push(await timed(does, n)); };
             (async () => {
               goTo(20000n);
@@ -103,7 +120,10 @@ class Speed(InBrowser):
             })();""")
         self.driver.switch_to.default_content()
         self.shot("long_zoomed")
-        figures = {name: median(took) for name, took in frames.items()}
-        least = {name: min(took) for name, took in frames.items()}
+        figures = {name: median(took for took, _ in of) for name, of in frames.items()}
+        least = {name: min(took for took, _ in of) for name, of in frames.items()}
+        drawn = {name: max(drawn for _, drawn in of) for name, of in frames.items()}
         print(f"a frame of {threads} threads and {lines} lines: " + ", ".join(f"{name} {figure:.0f} ms (least {least[name]:.0f})" for name, figure in figures.items()))
-        self.assertLess(max(least.values()), FRAME)
+        self.assertLess(max(drawn.values()), MOST_DRAWN, drawn)
+        if "PSE52_SPEED" in os.environ:
+            self.assertLess(max(least.values()), FRAME)

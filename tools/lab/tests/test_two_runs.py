@@ -1,8 +1,6 @@
 """Two runs beside one another in a real browser, and a link that holds both."""
 from __future__ import annotations
 
-import time
-
 from .in_browser import InBrowser
 from .served import Served
 
@@ -60,9 +58,9 @@ class TwoRuns(InBrowser):
 
     def test_the_kept_run_is_let_go_before_it_comes(self) -> None:
         self.open("#example=20_controller&horizon=2000")
+        self.count_runs()
         self.does("for (let press = 0; press < 2; press++) document.getElementById('beside').click()")
-        self.until("return performance.getEntriesByType('resource').some((entry) => entry.name.includes('pane=b'))")
-        time.sleep(0.3)
+        self.until_answered()
         self.assertEqual(self.text("#differs"), "")
 
     def test_a_line_more_and_a_word_changed(self) -> None:
