@@ -11,7 +11,7 @@ import unittest
 from pathlib import Path
 
 from sweep.engine import Work, gnu_parallel
-from sweep.tests.test_sweeps import REFERENCE, TABLE, Folder
+from sweep.tests.folders import REFERENCE, TABLE, Folder
 
 # Stands in for ssh: notes the host, and runs the words elsewhere, with nothing of this environment but its path and home.
 STAND_IN = """\

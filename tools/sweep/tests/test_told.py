@@ -6,7 +6,7 @@ import unittest
 
 from view.lines import MOST_LINES
 
-from .test_sweeps import TOML, Folder
+from .folders import TOML, Folder
 
 # a works from 1 on, after a `lock` in the first tick. Its ceiling is too low below 5, and a signal of the timer lets nobody live.
 SCRIPT = """\

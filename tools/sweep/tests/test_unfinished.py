@@ -8,7 +8,7 @@ from pathlib import Path
 from sweep.plan import read_sweep
 from sweep.plot import greatest_at, script, with_gaps
 
-from .test_sweeps import Folder
+from .folders import Folder
 
 # hog takes so much of each 20 ticks that low has no job, some jobs or all of its jobs done.
 STARVING = """\
