@@ -12,7 +12,7 @@ from fractions import Fraction
 
 from view.lines import CALLS, SIGNALS
 
-from .jobs import OF_NO_THREAD, SLEEP, Jobs, NamesNothing, answered, behind_a_lost_signal, periodic, thread_of
+from .jobs import NEXT_JOB, OF_NO_THREAD, SLEEP, Jobs, NamesNothing, answered, behind_a_lost_signal, periodic, thread_of
 from .seen import EVENTS, Seen
 from .usage import (
     capacity_of, high_ticks, is_server, refill_waits, stops_of, ticks_of, waits_of)
@@ -21,6 +21,8 @@ Figure = int | Fraction | None
 Table = dict[str, object]
 JOBS = ("periodic", "response")
 LOCKS = frozenset(("lock", "timedlock"))
+# The calls in which a thread may wait.
+WAITING = (*NEXT_JOB, "lock", "timedlock", "join", "mq_send", "mq_timedsend")
 PLACE = re.compile(r"\{[a-z][a-z0-9_]*\}")
 
 
@@ -282,6 +284,8 @@ def _check_value(name: str, key: str, value: object) -> None:
             raise WrongMeasure(f"measure '{name}': 'percentiles' is a list of numbers from 1 to 100")
     elif not isinstance(value, str):
         raise WrongMeasure(f"measure '{name}': '{key}' is a text")
+    elif key == "call" and value not in WAITING:
+        raise WrongMeasure(f"measure '{name}': 'call' is one in which a thread may wait, {', '.join(sorted(WAITING))}, and not '{value}'")
 
 
 def _check_line(name: str, key: str, said: str, kind: str) -> None:

@@ -20,6 +20,8 @@ PLACE = re.compile(r"\{([a-z][a-z0-9_]*)\}")
 # The endings of columns with response times.
 RESPONSE = re.compile(r"least|mean|greatest|p\d+")
 RESERVED = ("status", "fault")
+# What a thread that waits for signals waits for.
+SIGNAL_SET = re.compile(r"all|none|rt\d+(,rt\d+)*")
 # The exit statuses that a run has by its script and words alone: it would end so again.
 LASTING = frozenset(("0", "1", "2", "3"))
 # What measures a trace.
@@ -148,7 +150,7 @@ def read_sweep(path: Path) -> Sweep:
     values = _values(said.get("values", {}))
     sweep = Sweep(path.parent, path.stem, template, _horizon(said.get("horizon")), values, _measures(said.get("measure", [])))
     _places(sweep)
-    _threads(sweep)
+    _names(sweep)
     if sweep.count > MOST_RUNS:
         raise WrongSweep(f"the grid has {sweep.count} runs, and a sweep at most {MOST_RUNS}")
     columns = sweep.columns
@@ -231,15 +233,26 @@ def _places(sweep: Sweep) -> None:
                 raise WrongSweep(f"measure '{measure.name}': '{key}' is a number of at least {NUMBERS[key]}, and {measure.words[key]} may be less")
 
 
-def _threads(sweep: Sweep) -> None:
-    """Each thread that a measure names is one of the script, at some values at least."""
+def _declared(sweep: Sweep, *heads: str) -> list[str]:
+    """The names that lines of the script with these first words declare."""
     lines = [line.split("#")[0].split() for line in sweep.template.split("\n")]
-    there = [words[1] for words in lines if words[:1] == ["thread"] and len(words) > 1]
-    forms = [_form(name, sweep.values) for name in there]
+    return [words[1] for words in lines if len(words) > 1 and words[0] in heads]
+
+
+def _names(sweep: Sweep) -> None:
+    """Each thread that a measure names, and each thing that one is to wait for, is one of the script, at some values at least."""
+    threads, things = _declared(sweep, "thread"), _declared(sweep, "thread", "mutex", "cond", "sem", "queue")
     for measure in sweep.measures:
         for name in measure.threads:
-            if not any(form.fullmatch(name) for form in forms):
-                raise WrongSweep(f"measure '{measure.name}': the script has no thread '{name}'; it has {', '.join(there) or 'none'}")
+            if not _is_one_of(name, threads, sweep):
+                raise WrongSweep(f"measure '{measure.name}': the script has no thread '{name}'; it has {', '.join(threads) or 'none'}")
+        on = measure.words.get("on")
+        if isinstance(on, str) and not SIGNAL_SET.fullmatch(on) and not _is_one_of(on, things, sweep):
+            raise WrongSweep(f"measure '{measure.name}': the script has no '{on}' to wait for; it has {', '.join(things) or 'nothing'}")
+
+
+def _is_one_of(name: str, there: list[str], sweep: Sweep) -> bool:
+    return any(_form(one, sweep.values).fullmatch(name) for one in there)
 
 
 def _form(name: str, values: dict[str, list[int]]) -> re.Pattern[str]:

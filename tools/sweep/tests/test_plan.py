@@ -49,6 +49,17 @@ class Plan(Folder):
                 with self.assertRaisesRegex(WrongSweep, f"no thread '{name}'"):
                     read_sweep(toml)
 
+    def test_what_the_script_does_not_have_to_wait_for(self) -> None:
+        """An object, a thread that is joined, or a set of signals; and a call that waits. Else the waits would be 0 without a word."""
+        waits = TOML + '[[measure]]\nname = "w"\nkind = "blocked"\nthread = "a"\n'
+        script = "mutex m{long} none\nsem s 0\n" + SCRIPT
+        for there in ('on = "s"', 'on = "m5"', 'on = "b"', 'on = "rt1,rt7"', 'on = "all"', 'call = "lock"', 'call = "join"\non = "b"'):
+            self.assertEqual(read_sweep(self.write(f"{waits}{there}\n", script)).count, 9)
+        for wrong, named in (('on = "t"', "has no 't' to wait for; it has m{long}, s, a, b"), ('on = "m7"', "no 'm7'"),
+                             ('call = "lokc"', "and not 'lokc'"), ('call = "unlock"', "and not 'unlock'")):
+            with self.assertRaisesRegex(WrongSweep, named):
+                read_sweep(self.write(f"{waits}{wrong}\n", script))
+
     def test_words_and_files_that_are_wrong(self) -> None:
         self.write()
         for words in (["--jobs", "0"], ["--frob"], ["--engine", "ls"]):
