@@ -14,7 +14,7 @@ from .in_browser import InBrowser, has_codemirror
 # How long a picture may take from the last key on, and a frame while a long run is stepped through, in milliseconds.
 PICTURE, FRAME = 200, 100
 # How much a frame may draw: some things in each column of 3 pixels of the rows in sight, however long the run is.
-MOST_DRAWN = 20_000
+MOST_DRAWN = 12_000
 COUNTING_DRAWN = """window.drawn = 0;
 for (const name of ["fillRect", "strokeRect", "fillText", "lineTo", "fill", "stroke", "drawImage"]) {
   const draws = CanvasRenderingContext2D.prototype[name];

@@ -5,7 +5,7 @@ import time
 from collections.abc import Callable
 from typing import TypeVar
 
-LONGEST = 600  # seconds
+LONGEST = 300  # seconds
 Said = TypeVar("Said")
 
 
