@@ -3,8 +3,27 @@
 const LONGEST = 100_000, LONG = "#long";
 export const isTooLong = (hash) => hash.length > LONGEST;
 
+// What the address does not say yet when the page goes, the tab keeps: the page that then comes to the same address begins with it.
+const UNTOLD = "untold";
+function takeUntold() {
+  try {
+    const [place, hash] = JSON.parse(sessionStorage.getItem(UNTOLD) || "[]");
+    sessionStorage.removeItem(UNTOLD);
+    return place === location.hash ? hash : null;
+  } catch { return null; }
+}
+function keepUntold() {
+  if (!untold) return;
+  try { sessionStorage.setItem(UNTOLD, JSON.stringify([location.hash, addressOf(untold())])); } catch { /* too long, or no storage here */ }
+}
+let clock = 0, untold = null, left = takeUntold();
+window.addEventListener("pagehide", keepUntold);
+// A page that comes back as it was has lost nothing.
+window.addEventListener("pageshow", (shown) => { if (shown.persisted) takeUntold(); });
+
 export function fromAddress() {
-  const said = new URLSearchParams((location.hash === LONG && history.state || location.hash).slice(1).replaceAll("+", "%2B"));
+  const hash = left || location.hash === LONG && history.state || location.hash, said = new URLSearchParams(hash.slice(1).replaceAll("+", "%2B"));
+  left = null;
   const number = (name) => /^\d{1,19}$/.test(said.get(name) || "") ? said.get(name) : "";
   return { example: said.get("example") || "", script: said.get("script"), horizon: number("horizon"), cursor: number("cursor"), beside: said.get("beside") };
 }
@@ -19,15 +38,17 @@ export function addressOf({ example, script, horizon, cursor, beside }) {
   return "#" + parts.join("&");
 }
 
-function put(hash) { if (isTooLong(hash)) history.replaceState(hash, "", LONG); else if (hash !== location.hash) history.replaceState(null, "", hash); }
-let clock = 0;
+function put(said) {
+  const hash = addressOf(said());
+  clearTimeout(clock); untold = null;
+  if (isTooLong(hash)) history.replaceState(hash, "", LONG); else if (hash !== location.hash) history.replaceState(null, "", hash);
+}
 // What stands in the page now becomes the page before this one, to which the browser's way back leads. The new one has another
 // address at once, since a browser tells of the way only where the addresses differ.
 export function leaveInAddress(said) {
-  clearTimeout(clock);
-  put(addressOf(said())); history.pushState(null, "", "#");
+  put(said); history.pushState(null, "", "#");
 }
 export function toAddress(said) {
   clearTimeout(clock);
-  clock = setTimeout(() => put(addressOf(said())), 250);
+  untold = said; clock = setTimeout(put, 250, said);
 }

@@ -32,6 +32,22 @@ class Course(InBrowser):
         self.until("return lab.drawn", mine)
         self.assertEqual(self.script(), mine)
 
+    def test_what_was_just_typed_is_there_behind_a_reload(self) -> None:
+        """Also what the address does not say yet. A link that is opened then is what it says."""
+        leave = "window.goes = true; history.replaceState = () => {};"  # as where the page goes before it writes its address
+        mine = "thread mine fifo 5 at 0\nrun 3\nend\n"
+        for leaves in ("location.reload()", "location.href = 'about:blank'"):
+            self.open("#example=04_inversion")
+            self.write_at_once(mine)
+            self.does(leave + leaves)
+            if "blank" in leaves:
+                self.until("return location.href", "about:blank")
+                self.open("#example=05_inherit")
+                self.assertEqual(self.script(), INHERIT)
+            else:
+                self.until("return !window.goes && window.lab && lab.drawn", mine)
+                self.until("return location.hash.includes('script=thread%20mine')")
+
     def test_an_example_that_was_changed_is_chosen_again(self) -> None:
         from selenium.webdriver.support.ui import Select
 
