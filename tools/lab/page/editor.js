@@ -21,12 +21,14 @@ function codeEditor(CodeMirror, changed, leave) {
   // Tab goes on to the next part of the page, as everywhere else.
   const code = CodeMirror(place, { mode: "pse52", lineNumbers: true, lineWrapping: true, indentUnit: 4, viewportMargin: 20, screenReaderLabel: "script",
     extraKeys: { Tab: false, "Shift-Tab": false, Esc: leave } });
-  let marks = [], notes = [], lines = [], words = [];
-  code.on("change", changed);
+  let marks = [], notes = [], lines = [], words = [], undone = 0;
+  code.on("change", (_, { origin }) => { undone += origin === "undo"; changed(); });
   return {
     text: () => code.getValue(),
     write(text) { code.setValue(text); code.clearHistory(); },
-    replace(line, from, to, text) { code.replaceRange(text, { line, ch: from }, { line, ch: to }, "+slide"); },
+    // What a slide did is one step to be undone.
+    replace(line, from, to, text, slide) { code.replaceRange(text, { line, ch: from }, { line, ch: to }, "*slide" + slide + "." + undone); },
+    undo: () => code.undo(),
     cursor: () => ({ line: code.getCursor().line, column: code.getCursor().ch }),
     // As if it were typed, so that it can be undone; the focus stays where it is.
     put(from, to, text) {
@@ -64,7 +66,7 @@ function plainEditor(changed, leave) {
   Object.assign(area, { spellcheck: false, wrap: "off" });
   area.setAttribute("aria-label", "script"); area.setAttribute("autocapitalize", "off"); numbers.setAttribute("aria-hidden", "true");
   holder.append(numbers, area); place.append(holder);
-  let faulty = new Set();
+  let faulty = new Set(), steps = [];
   const starts = (line) => area.value.split("\n").slice(0, line).reduce((sum, text) => sum + text.length + 1, 0);
   function number() {
     const count = area.value.split("\n").length;
@@ -74,16 +76,29 @@ function plainEditor(changed, leave) {
   }
   area.addEventListener("scroll", () => { numbers.scrollTop = area.scrollTop; });
   area.addEventListener("input", () => { number(); changed(); });
-  area.addEventListener("keydown", (key) => { if (key.key === "Escape") { key.preventDefault(); leave(); } });
+  // What is typed the browser undoes; what the page put into the script it does not. Says whether that was undone.
+  function undo() {
+    if (!steps.length || steps[steps.length - 1].after !== area.value) return false;
+    area.value = steps.pop().before; number(); changed();
+    return true;
+  }
+  function putInto(text, from, to, place, slide) {
+    const before = area.value, top = steps[steps.length - 1];
+    area.setRangeText(text, from, to, place);
+    if (slide && top && top.slide === slide && top.after === before) top.after = area.value; else steps.push({ before, after: area.value, slide });
+    number(); changed();
+  }
+  area.addEventListener("keydown", (key) => {
+    if (key.key === "Escape") { key.preventDefault(); leave(); }
+    if (key.key === "z" && key.ctrlKey && undo()) key.preventDefault();
+  });
   return {
     text: () => area.value,
-    write(text) { area.value = text; number(); changed(); },
-    replace(line, from, to, text) {
-      const start = starts(line);
-      area.setRangeText(text, start + from, start + to, "preserve"); number(); changed();
-    },
+    write(text) { area.value = text; steps = []; number(); changed(); },
+    replace(line, from, to, text, slide) { const start = starts(line); putInto(text, start + from, start + to, "preserve", slide); },
+    undo,
     put(from, to, text) {
-      area.setRangeText(text, from, to, "start"); number(); changed();
+      putInto(text, from, to, "start", 0);
       area.scrollTop = Math.max(0, (area.value.slice(0, from).split("\n").length - 5) * 19.5);
     },
     cursor() {

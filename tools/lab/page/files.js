@@ -17,4 +17,19 @@ export async function exported(form, script, horizon, title) {
   return "";
 }
 
-export function opened(file) { return file.text(); }
+const GREATEST_SCRIPT = 1_048_576;
+// The text of a file. Throws why there is none.
+export async function opened(file) {
+  if (file.size > GREATEST_SCRIPT) throw new Error(file.name + " is no script: one has at most " + GREATEST_SCRIPT + " bytes.");
+  try { return await file.text(); } catch { throw new Error(file.name + " cannot be read."); }
+}
+// Opens what is dropped on a page, before a part of it takes it for its own.
+export function openDropped(page, open) {
+  const hasFile = (drag) => drag.dataTransfer && drag.dataTransfer.types.includes("Files");
+  page.addEventListener("dragover", (drag) => { if (hasFile(drag)) drag.preventDefault(); }, true);
+  page.addEventListener("drop", (drop) => {
+    if (!hasFile(drop)) return;
+    drop.preventDefault(); drop.stopPropagation();
+    if (drop.dataTransfer.files.length) open(drop.dataTransfer.files[0]);
+  }, true);
+}

@@ -3,7 +3,7 @@ import { addressOf, fromAddress, isTooLong, leaveInAddress, toAddress } from "./
 import { runsDiffer, scriptsDiffer } from "./differences.js";
 import { editorOf } from "./editor.js";
 import { showFaults } from "./faults.js";
-import { download, exported, opened } from "./files.js";
+import { download, exported, openDropped, opened } from "./files.js";
 import { Runs } from "./runs.js";
 import * as sweep from "./sweep.js";
 
@@ -11,7 +11,7 @@ const element = (id) => document.getElementById(id);
 const HORIZON = /^\s*#\s*horizon (\d+)\b/;
 let about, editor, pictures, runs;
 const NONE = { threads: {}, instants: [] };
-let example = null, named = "", kept = null, keptRan = null, cursor = 0n, ran = null, ranScript = null, difference = NONE, compared = false, quiet = false, showing = false, pressedAt = 0, notice = "";
+let example = null, named = "", kept = null, keptRan = null, cursor = 0n, ran = null, ranScript = null, difference = NONE, compared = false, quiet = false, showing = false, pressedAt = 0, notice = "", noSlider = "";
 
 const script = () => editor.text();
 const horizon = () => element("horizon").value.trim();
@@ -22,7 +22,7 @@ const say = (text) => { element("state").textContent = text; };
 
 function changed() {
   if (quiet) return;
-  if (!element("slider").hidden && !sweep.follow(editor)) showSlider(false);
+  if (!element("slider").hidden && !sweep.follow(editor)) { showSlider(false); notice = "The number of the slider is no more in the script."; }
   runNow(); tellChanges(); remember();
 }
 const NO_HORIZON = "The horizon is a number of ticks from 0 to 10^18.";
@@ -180,17 +180,22 @@ function setDark(on) {
   for (const picture of Object.values(pictures)) picture.dark(on);
 }
 const isDark = () => document.documentElement.classList.contains("dark");
+async function open(file) {
+  try { const text = await opened(file); leave(); start({ text, name: file.name.replace(/\.\w+$/, "") }); } catch (wrong) { say(wrong.message); }
+}
 function save() { download(title() + ".task", script(), "text/plain"); }
 function toggleHelp() { element("keys").hidden = !element("keys").hidden; element("help").setAttribute("aria-expanded", String(!element("keys").hidden)); }
 function showSlider(on) { element("slider").hidden = !on; element("sweep").setAttribute("aria-pressed", String(on)); }
 function toggleSweep() {
-  const on = element("slider").hidden && sweep.begin(editor);
+  const why = element("slider").hidden ? sweep.begin(editor) : "", on = element("slider").hidden && !why;
   showSlider(on);
+  if (why || element("state").textContent === noSlider) say(why);
+  noSlider = why;
   if (on) element("value").focus();
 }
 const KEYS = { e: () => editor.focus(), g: () => element("gallery").focus(), h: () => element("horizon").focus(), c: () => keep(kept === null ? shownScript() : null), s: toggleSweep, x: nextDifference,
   d: () => setDark(!isDark()), "?": toggleHelp };
-const WITH_CONTROL = { s: save, o: () => element("file").click() };
+const WITH_CONTROL = { s: save, o: () => element("file").click(), z: () => editor.undo() };
 function pressed(key, control) {
   const does = (control ? WITH_CONTROL : KEYS)[key];
   if (does) does();
@@ -212,7 +217,7 @@ window.addEventListener("keydown", (key) => {
   if (!pictures || key.altKey || key.metaKey || (slides && /^(Arrow|Page|Home|End)/.test(key.key))) return;
   // From the script it is the editor that leaves.
   if (inField && key.key === "Escape" && !element("editor").contains(at)) { pictures.a.focus(); key.preventDefault(); return; }
-  if (inField && !slides && !key.ctrlKey) return;
+  if (inField && !slides && (!key.ctrlKey || key.key === "z")) return;
   const onButton = key.target.tagName === "BUTTON" && (key.key === "Enter" || key.key === " ");
   if (!onButton && (pressed(key.key, key.ctrlKey) || (!key.ctrlKey && pictures.a.press(key.key)))) key.preventDefault();
 }, true);
@@ -225,7 +230,8 @@ function wire() {
   element("least").oninput = element("most").oninput = sweep.bounds;
   element("value").oninput = () => { pressedAt = performance.now(); sweep.slide(editor); };
   element("open").onclick = WITH_CONTROL.o; element("save").onclick = save;
-  element("file").onchange = async () => { const file = element("file").files[0]; if (file) { const text = await opened(file); leave(); start({ text, name: file.name.replace(/\.\w+$/, "") }); } element("file").value = ""; };
+  element("file").onchange = async () => { if (element("file").files.length) await open(element("file").files[0]); element("file").value = ""; };
+  for (const page of [window, element("a").contentWindow, element("b").contentWindow]) openDropped(page, open);
   element("export").onchange = async () => { const form = element("export").value; element("export").value = ""; if (form) say(hasHorizon() ? await exported(form, script(), horizon(), title()) : NO_HORIZON); };
   element("link").onclick = async () => {
     const said = addressOf(now()), link = location.href.split("#")[0] + said;

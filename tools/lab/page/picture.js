@@ -47,7 +47,7 @@ hearers.push((at) => {
 });
 for (const name of ["d", "?"]) delete KEYS[name];
 window.addEventListener("keydown", (key) => {
-  if (key.target === element("search") || key.ctrlKey && !"so".includes(key.key) || key.metaKey || key.altKey || KEYS[key.key] && !key.ctrlKey) return;
+  if (key.target === element("search") || key.ctrlKey && !"soz".includes(key.key) || key.metaKey || key.altKey || KEYS[key.key] && !key.ctrlKey) return;
   if (window.parent.lab?.pressed(key.key, key.ctrlKey)) key.preventDefault();
 });
 // A picture of the whole run stays one when its room changes, unless something was done to look closer.

@@ -1,30 +1,27 @@
-// A slider for one number of the script. It changes the script itself, and the picture follows.
+// A slider for one number of the script. It changes the script itself, and the picture follows. One undo takes back all that it did.
 const element = (id) => document.getElementById(id);
-let where = null;
+const LONGEST_BEFORE = 18;
+let where = null, slides = 0;
 
 const numbersOf = (line) => [...line.split("#")[0].matchAll(/(?<![\w])\d+(?![\w])/g)];
 
-// Begins at the number at the cursor, or else at the first one of its line, or of the script.
+// Begins at the number at the cursor, or else at the first one of its line. Says why where it does not.
 export function begin(editor) {
-  const { line, column } = editor.cursor(), lines = editor.text().split("\n");
-  const order = [line, ...lines.keys()];
-  for (const at of order) {
-    const found = numbersOf(lines[at] || "");
-    if (!found.length) continue;
-    let number = at === line ? found.findIndex((one) => one.index <= column && column <= one.index + one[0].length) : 0;
-    if (number < 0) number = 0;
-    where = { line: at, number, lines };
-    const value = Number(found[number][0]);
-    if (!Number.isSafeInteger(value)) continue;
-    Object.assign(element("value"), { min: 0, max: Math.max(10, 2 * value), step: 1 });
-    element("least").value = "0"; element("most").value = String(Math.max(10, 2 * value));
-    tell(value);
-    return true;
-  }
-  return false;
+  const { line, column } = editor.cursor(), lines = editor.text().split("\n"), found = numbersOf(lines[line] || "");
+  if (!found.length) return "Line " + (line + 1) + " has no number for a slider: set the cursor on one in the script.";
+  const number = Math.max(0, found.findIndex((one) => one.index <= column && column <= one.index + one[0].length)), value = Number(found[number][0]);
+  if (!Number.isSafeInteger(value)) return "The number " + found[number][0] + " is too great for a slider.";
+  where = { line, number, lines }; slides += 1;
+  Object.assign(element("value"), { min: 0, max: Math.max(10, 2 * value), step: 1 });
+  element("least").value = "0"; element("most").value = String(Math.max(10, 2 * value));
+  tell(value);
+  return "";
 }
+// The number stands in its line, of which a long beginning is left out.
 function tell(value) {
-  element("swept").textContent = "line " + (where.line + 1) + ": " + where.lines[where.line].trim().slice(0, 28);
+  const line = where.lines[where.line], { index, 0: digits } = numbersOf(line)[where.number], before = line.slice(0, index).trimStart();
+  element("behind").textContent = "line " + (where.line + 1) + ": " + (before.length > LONGEST_BEFORE ? "…" + before.slice(-LONGEST_BEFORE) : before);
+  element("onward").textContent = line.slice(index + digits.length).trimEnd();
   element("value").value = value; element("number").textContent = value;
 }
 export function bounds() {
@@ -52,5 +49,5 @@ export function follow(editor) {
 }
 export function slide(editor) {
   const found = numbersOf(where.lines[where.line])[where.number], value = element("value").value;
-  if (found[0] !== value) editor.replace(where.line, found.index, found.index + found[0].length, value);
+  if (found[0] !== value) editor.replace(where.line, found.index, found.index + found[0].length, value, slides);
 }

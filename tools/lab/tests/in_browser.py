@@ -116,6 +116,18 @@ class InBrowser(unittest.TestCase):
     def script(self) -> str:
         return str(self.does("const code = document.querySelector('.CodeMirror'); return code ? code.CodeMirror.getValue() : document.querySelector('#plain textarea').value"))
 
+    def cursor_at(self, words: str, further: int) -> None:
+        """Sets the cursor of the script where these words begin, and some letters further."""
+        at = self.script().index(words) + further
+        self.does("""const code = document.querySelector('.CodeMirror')?.CodeMirror, area = document.querySelector('#plain textarea');
+            if (code) { code.focus(); code.setCursor(code.posFromIndex(arguments[0])); } else { area.focus(); area.setSelectionRange(arguments[0], arguments[0]); }""", at)
+
+    def undo(self) -> None:
+        from selenium.webdriver.common.action_chains import ActionChains
+        from selenium.webdriver.common.keys import Keys
+
+        ActionChains(self.driver).key_down(Keys.CONTROL).send_keys("z").key_up(Keys.CONTROL).perform()
+
     def write(self, text: str) -> None:
         """Empties the script, and types another one, as a user who does not want lines to be indented."""
         from selenium.webdriver.common.action_chains import ActionChains

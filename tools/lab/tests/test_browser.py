@@ -1,4 +1,4 @@
-"""The page in a real browser: typing, the picture, the lists, refusals, the slider, a phone."""
+"""The page in a real browser: typing, the picture, the lists, refusals, a phone."""
 from __future__ import annotations
 
 from urllib.parse import quote
@@ -113,61 +113,12 @@ class Page(InBrowser):
         self.driver.switch_to.window(waited(lambda: next((tab for tab in self.driver.window_handles if tab != first), ""), "a copy of the tab"))
         self.assertNotEqual(word(), mine)
 
-    def test_the_slider(self) -> None:
-        from selenium.webdriver.common.keys import Keys
-
-        self.open("#example=04_inversion")
-        self.does("document.querySelector('.CodeMirror')?.CodeMirror.setCursor(arguments[0], 8); const area = document.querySelector('#plain textarea');"
-                  "if (area) { const at = area.value.indexOf('run 9') + 4; area.setSelectionRange(at, at); }", self.script().splitlines().index("    run 9"))
-        self.does("document.getElementById('sweep').click()")
-        self.assertRegex(self.text("#swept"), r"^line \d+: run 9$")
-        for wanted in (10, 11):
-            self.press(Keys.ARROW_RIGHT)
-            self.assertEqual(self.text("#number"), str(wanted))
-            self.assertIn(f"    run {wanted}\n", self.script())
-        self.until("return lab.drawn.includes('    run 11\\n')")
-        self.assertIn("18 dispatch low 2", self.in_frame("data.lines", "a"))
-        self.shot("slider")
-
-    def test_the_slider_follows_its_number(self) -> None:
-        """A line above moves it, a number written by hand is its value, and without its line it ends."""
-        from selenium.webdriver.common.keys import Keys
-
-        self.open("#example=04_inversion")
-        line = self.script().splitlines().index("    run 9")
-        self.does("document.querySelector('.CodeMirror')?.CodeMirror.setCursor(arguments[0], 8); const area = document.querySelector('#plain textarea');"
-                  "if (area) { const at = area.value.indexOf('run 9') + 4; area.setSelectionRange(at, at); }", line)
-        self.does("document.getElementById('sweep').click()")
-        self.write_at_once("# a line above\n" + self.script())
-        self.assertEqual(self.text("#swept"), f"line {line + 2}: run 9")
-        self.press(Keys.ARROW_RIGHT)
-        self.assertEqual([text for text in self.script().splitlines()[line:line + 2]], ["thread medium fifo 5 at 5", "    run 10"])
-        self.write_at_once(self.script().replace("    run 10\n", "    run 40\n"))
-        self.assertEqual(self.does("return ['value', 'most'].map((name) => document.getElementById(name).value)"), ["40", "40"])
-        self.write_at_once(self.script().replace("    run 40\n", ""))
-        self.assertTrue(self.does("return document.getElementById('slider').hidden"))
-
-    def test_the_bounds_of_the_slider(self) -> None:
-        """Digit by digit a bound is less than the number, which stays; a number below 0 is no bound."""
-        from selenium.webdriver.common.keys import Keys
-
-        self.open("#example=04_inversion")
-        self.does("document.querySelector('.CodeMirror')?.CodeMirror.setCursor(arguments[0], 8); const area = document.querySelector('#plain textarea');"
-                  "if (area) { const at = area.value.indexOf('run 9') + 4; area.setSelectionRange(at, at); }", self.script().splitlines().index("    run 9"))
-        self.does("document.getElementById('sweep').click(); document.getElementById('most').select()")
-        self.driver.find_element("id", "most").send_keys("100")
-        self.does("document.getElementById('least').select()")
-        self.driver.find_element("id", "least").send_keys("-3")
-        self.does("document.getElementById('value').focus()")
-        self.press(Keys.ARROW_RIGHT)
-        self.assertIn("    run 10\n", self.script())
-        self.assertEqual(self.does("return ['min', 'max'].map((name) => document.getElementById('value')[name])"), ["0", "100"])
-
     def test_keys_in_the_fields(self) -> None:
         """Escape leads from each field to the picture, and the keys of the page go on where the slider has the focus."""
         from selenium.webdriver.common.keys import Keys
 
         self.open("#example=04_inversion")
+        self.cursor_at("run 9", 4)
         self.press(Keys.ESCAPE)
         for key, field in (("h", "horizon"), ("g", "gallery"), ("s", "value")):
             self.press(key)

@@ -54,6 +54,28 @@ class Files(InBrowser):
         self.does("document.getElementById('save').click()")
         self.assertIn("quantum 4", self.had("03_round_robin.task"))
 
+    def test_a_file_that_is_dropped_is_opened(self) -> None:
+        """On the script, and on a picture. What was there is found by the way back; what is no script leaves it."""
+        drop = """const [name, text, inPicture] = arguments, data = new DataTransfer(), where = inPicture ? document.getElementById("a").contentWindow : window;
+            data.items.add(new where.File([text], name, { type: "text/plain" }));
+            const on = where.document.querySelector("#picture, .CodeMirror-lines, #plain textarea");
+            for (const kind of ["dragover", "drop"]) {
+              const drag = new where.DragEvent(kind, { dataTransfer: data, bubbles: true, cancelable: true });
+              if (on.dispatchEvent(drag)) throw new Error("the browser would open it in the place of the page");
+            }"""
+        self.open("#example=05_inherit")
+        for in_picture in (False, True):
+            mine = f"# horizon 7\nthread mine fifo {5 + in_picture} at 0\nrun 3\nend\n"
+            self.does(drop, "mine.task", mine, in_picture)
+            self.until("return lab.drawn", mine)
+            self.assertEqual(self.script(), mine)
+            self.assertEqual(self.does("return document.getElementById('horizon').value"), "7")
+        self.does(drop, "large.bin", "x" * 1_048_577, False)
+        self.until("return document.getElementById('state').textContent", "large.bin is no script: one has at most 1048576 bytes.")
+        self.assertEqual(self.script(), mine)
+        self.does("document.getElementById('save').click()")
+        self.assertEqual(self.had("mine.task"), mine)
+
     def test_an_export_without_a_server(self) -> None:
         self.open("#example=05_inherit")
         self.lab.end()

@@ -26,9 +26,6 @@ class TwoRuns(InBrowser):
 
     def test_the_keys_after_a_change(self) -> None:
         """They belong to the picture, and not to the script; and the change can be undone like what is typed."""
-        from selenium.webdriver.common.action_chains import ActionChains
-        from selenium.webdriver.common.keys import Keys
-
         self.open("#example=04_inversion")
         before = self.script()
         next(button for button in self.driver.find_elements("css selector", "#changes button") if button.text == "make it inherit").click()
@@ -36,10 +33,11 @@ class TwoRuns(InBrowser):
         self.press("x")
         self.assertEqual(self.in_frame("pane.tick().toString()", "a"), "6")
         self.assertEqual(self.script(), before.replace("mutex data none", "mutex data inherit"))
-        if not self.is_plain:
-            self.press("e")
-            ActionChains(self.driver).key_down(Keys.CONTROL).send_keys("z").key_up(Keys.CONTROL).perform()
+        for into_the_script in ((), ("e",)):
+            self.press(*into_the_script)
+            self.undo()
             self.assertEqual(self.script(), before)
+            next(button for button in self.driver.find_elements("css selector", "#changes button") if button.text == "make it inherit").click()
 
     def test_the_run_that_is_kept_is_the_one_that_is_seen(self) -> None:
         """Where the script is refused, that is the run before; where a link's is, the page says so."""
