@@ -4,6 +4,7 @@ import { runsDiffer, scriptsDiffer } from "./differences.js";
 import { editorOf } from "./editor.js";
 import { showFaults } from "./faults.js";
 import { download, exported, openDropped, opened } from "./files.js";
+import { chooseOther, follow } from "./look.js";
 import { Runs } from "./runs.js";
 import * as sweep from "./sweep.js";
 
@@ -179,7 +180,6 @@ function setDark(on) {
   document.documentElement.classList.toggle("dark", on);
   for (const picture of Object.values(pictures)) picture.dark(on);
 }
-const isDark = () => document.documentElement.classList.contains("dark");
 async function open(file) {
   try { const text = await opened(file); leave(); start({ text, name: file.name.replace(/\.\w+$/, "") }); } catch (wrong) { say(wrong.message); }
 }
@@ -194,7 +194,7 @@ function toggleSweep() {
   if (on) element("value").focus();
 }
 const KEYS = { e: () => editor.focus(), g: () => element("gallery").focus(), h: () => element("horizon").focus(), c: () => keep(kept === null ? shownScript() : null), s: toggleSweep, x: nextDifference,
-  d: () => setDark(!isDark()), "?": toggleHelp };
+  d: () => chooseOther(setDark), "?": toggleHelp };
 const WITH_CONTROL = { s: save, o: () => element("file").click(), z: () => editor.undo() };
 function pressed(key, control) {
   const does = (control ? WITH_CONTROL : KEYS)[key];
@@ -240,7 +240,6 @@ function wire() {
   };
   element("look").onclick = KEYS.d; element("help").onclick = toggleHelp;
   window.addEventListener("popstate", readAddress);
-  window.matchMedia("(prefers-color-scheme: dark)").addEventListener("change", (query) => setDark(query.matches));
 }
 
 function pictureOf(id) {
@@ -256,7 +255,7 @@ async function begun() {
   pictures = { a: await pictureOf("a"), b: await pictureOf("b") };
   runs = { a: new Runs("a", shownA, () => { document.body.classList.add("stale"); say("The run is still being made."); }), b: new Runs("b", shownB) };
   fillGallery(); wire();
-  setDark(window.matchMedia("(prefers-color-scheme: dark)").matches);
+  follow(setDark);
   readAddress();
   editor.focus();
 }

@@ -141,6 +141,8 @@ class Page(InBrowser):
         self.shot("overview")
 
     def test_dark_and_light(self) -> None:
+        from selenium.webdriver.common.keys import Keys
+
         self.open("#example=20_controller&cursor=27")
         paper = "return getComputedStyle(document.body).backgroundColor"
         before = self.does(paper)
@@ -148,6 +150,23 @@ class Page(InBrowser):
         self.assertNotEqual(self.does(paper), before)
         self.assertTrue(self.in_frame("document.documentElement.classList.contains('dark')", "a"))
         self.shot("dark")
+        # It is chosen, and stays where the page is loaded again and where the browser itself changes.
+        for dark in (True, False):
+            self.driver.refresh()
+            self.until("return window.lab && lab.drawn !== ''")
+            self.assertEqual([self.does(paper) == before, self.in_frame("document.documentElement.classList.contains('dark')", "a")], [not dark, dark])
+            self.driver.execute_cdp_cmd("Emulation.setEmulatedMedia", {"features": [{"name": "prefers-color-scheme", "value": "light" if dark else "dark"}]})
+            self.until("return matchMedia('(prefers-color-scheme: dark)').matches", not dark)
+            self.assertEqual(self.does(paper) == before, not dark)
+            self.press(Keys.ESCAPE, "d")
+
+    def test_dark_as_the_browser_says(self) -> None:
+        """Up to a choice."""
+        self.open()
+        for said in ("dark", "light", "dark"):
+            self.driver.execute_cdp_cmd("Emulation.setEmulatedMedia", {"features": [{"name": "prefers-color-scheme", "value": said}]})
+            self.until("return document.documentElement.className", "dark" if said == "dark" else "")
+            self.assertEqual(self.in_frame("document.documentElement.classList.contains('dark')", "a"), said == "dark")
 
 
 class PlainPage(Page):
