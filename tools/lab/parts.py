@@ -10,7 +10,7 @@ from .gallery import gallery
 TOP = Path(__file__).resolve().parents[2]
 PAGE, VIEW = Path(__file__).with_name("page"), TOP / "tools" / "view" / "page"
 CODEMIRROR = Path("/usr/share/javascript/codemirror/lib")
-OF_VIEW = ("page.css", "model.js", "draw.js", "servers.js", "objects.js", "tell.js", "overview.js", "input.js")
+OF_VIEW = ("page.css", "model.js", "draw.js", "servers.js", "objects.js", "tell.js", "overview.js", "more.js", "input.js")
 OF_CODEMIRROR = ("codemirror.css", "codemirror.js")
 KINDS = {".html": "text/html; charset=utf-8", ".css": "text/css; charset=utf-8", ".js": "text/javascript; charset=utf-8"}
 

@@ -18,7 +18,7 @@ from .svg import heading
 from .timeline import MarkKind, Span, State, ThreadLine, Timeline
 
 PAGE = Path(__file__).parent / "page"
-SCRIPTS = ("model.js", "draw.js", "servers.js", "objects.js", "tell.js", "overview.js", "input.js", "start.js")
+SCRIPTS = ("model.js", "draw.js", "servers.js", "objects.js", "tell.js", "overview.js", "more.js", "input.js", "start.js")
 CUT_PLACES, AXIS_WIDTH, LEGIBLE = 34, 1400, 6.0
 STATES = {State.RUNNING: 0, State.READY: 1, State.WAITING: 2, State.OFF: 3}
 # What else than states of threads the page tells of an instant.

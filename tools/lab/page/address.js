@@ -3,13 +3,15 @@
 const LONGEST = 100_000, LONG = "#long";
 export const isTooLong = (hash) => hash.length > LONGEST;
 
-// What the address does not say yet when the page goes, the tab keeps: the page that then comes to the same address begins with it.
+// What the address does not say yet when the page goes, the tab keeps: a reload or the way back to that address begins with it, and a
+// link that is opened does not.
 const UNTOLD = "untold";
+const isOpened = () => performance.getEntriesByType("navigation")[0]?.type === "navigate";
 function takeUntold() {
   try {
     const [place, hash] = JSON.parse(sessionStorage.getItem(UNTOLD) || "[]");
     sessionStorage.removeItem(UNTOLD);
-    return place === location.hash ? hash : null;
+    return place === location.hash && !isOpened() ? hash : null;
   } catch { return null; }
 }
 function keepUntold() {

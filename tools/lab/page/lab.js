@@ -7,6 +7,7 @@ import { download, exported, openDropped, opened } from "./files.js";
 import { chooseOther, follow } from "./look.js";
 import { Runs } from "./runs.js";
 import * as sweep from "./sweep.js";
+import { showLines } from "./words.js";
 
 const element = (id) => document.getElementById(id);
 const HORIZON = /^\s*#\s*horizon (\d+)\b/;
@@ -80,12 +81,7 @@ function compare() {
   compared = true;
   const words = scriptsDiffer(kept, script());
   editor.changed(words.words);
-  element("words").replaceChildren(...words.lines.slice(0, 40).map(([number, before, after]) => {
-    const line = document.createElement("li");
-    const mark = Object.assign(document.createElement("mark"), { textContent: after === null ? "" : after.trim() });
-    line.append((number === null ? "gone" : "line " + number) + ": ", before === null ? "" : before.trim() + " ", after === null ? "" : "→ ", mark);
-    return line;
-  }));
+  showLines(element("words"), words.lines);
   difference = runsDiffer(pictures.b.data(), pictures.a.data());
   pictures.a.differ(difference.threads); pictures.b.differ(difference.threads);
   const count = difference.instants.length;

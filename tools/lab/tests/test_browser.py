@@ -140,6 +140,25 @@ class Page(InBrowser):
         self.until("return location.hash.includes('cursor=1500')")
         self.shot("overview")
 
+    def test_rows_that_have_no_room_are_counted(self) -> None:
+        """At the lower edge those below, and where one has gone down, at the upper one those above."""
+        told = """(() => { const said = []; pen.fillText = (text, ...at) => { said.push(text); CanvasRenderingContext2D.prototype.fillText.call(pen, text, ...at); };
+            draw(); delete pen.fillText; return said.filter((text) => text.endsWith("more")); })()"""
+        self.open("#script=" + quote("".join(f"thread t{number} fifo {number} at 0\nrun 2\nend\n" for number in range(1, 61))))
+        seen = int(self.in_frame("Math.floor((height - 18 - AXIS - 6) / ROW(0))", "a"))
+        self.assertGreater(seen, 3)
+        self.assertEqual(self.in_frame(told, "a"), [f"▼ {60 - seen} more"])
+        self.shot("rows_below")
+        self.in_frame("goUp(10 * ROW(0))", "a")
+        above, below = self.in_frame(told, "a")
+        self.assertIn(above, ("▲ 10 more", "▲ 11 more"))
+        self.assertIn(below, (f"▼ {50 - seen} more", f"▼ {49 - seen} more"))
+        self.in_frame("goUp(1e6)", "a")
+        self.assertRegex(" ".join(self.in_frame(told, "a")), r"^▲ \d+ more$")
+        self.shot("rows_above")
+        self.open("#example=04_inversion")
+        self.assertEqual(self.in_frame(told, "a"), [])
+
     def test_dark_and_light(self) -> None:
         from selenium.webdriver.common.keys import Keys
 

@@ -37,7 +37,7 @@ class Course(InBrowser):
         leave = "window.goes = true; history.replaceState = () => {};"  # as where the page goes before it writes its address
         mine = "thread mine fifo 5 at 0\nrun 3\nend\n"
         for leaves in ("location.reload()", "location.href = 'about:blank'"):
-            self.open("#example=04_inversion")
+            self.open("#example=05_inherit")
             self.write_at_once(mine)
             self.does(leave + leaves)
             if "blank" in leaves:

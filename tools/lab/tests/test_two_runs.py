@@ -1,6 +1,8 @@
 """Two runs beside one another in a real browser, and a link that holds both."""
 from __future__ import annotations
 
+from urllib.parse import quote
+
 from .in_browser import InBrowser
 from .served import Served
 
@@ -72,6 +74,22 @@ class TwoRuns(InBrowser):
             self.assertEqual(self.does("return [...document.querySelectorAll('.CodeMirror .changed')].map((word) => word.textContent)"), ["version", "2", "strict"])
         self.does("document.getElementById('a').contentWindow.pane.goTo(7n)")
         self.assertEqual([self.table("Budgets", frame) for frame in "ab"], [["server | capacity 3"]] * 2)
+
+    def test_lines_that_are_long(self) -> None:
+        """Of a long line what differs is told and marked, with the words beside it, and a long word makes no line wider than its place."""
+        comment, word = "# " + "a comment that goes on " * 8, "x" * 300
+        before = f"thread a sporadic 20 3 100 20 4 at 2 {comment}\n    run 3 # {word}\n" + "    run 1\n" * 50 + "end\n"
+        after = before.replace("20 3 100", "20 3 90").replace(word, word + "y").replace("    run 1\n", "    run 2\n")
+        self.open("#horizon=90&script=" + quote(after) + "&beside=" + quote(before))
+        self.until("return document.getElementById('differs').textContent.startsWith('The runs differ')")
+        lines = self.does("return [...document.querySelectorAll('#words li')].map((line) => line.textContent)")
+        self.assertEqual(lines[0], "line 1: … sporadic 20 3 100 20 4 at … → … sporadic 20 3 90 20 4 at …")
+        self.assertEqual(lines[1], f"line 2: run 3 # {word} → run 3 # {word}y")
+        self.assertEqual((len(lines), lines[-1]), (41, "and 12 more lines"))
+        marks = self.does("return [...document.querySelectorAll('#words mark')].map((mark) => mark.textContent)")
+        self.assertEqual(marks[:3], ["90", word + "y", "2"])
+        self.assertLessEqual(self.does("const place = document.getElementById('compared'); return place.scrollWidth - place.clientWidth"), 0)
+        self.shot("long_lines")
 
     def test_each_picture_keeps_to_its_frame(self) -> None:
         """On a wide screen, as on a narrow one: the lists stay in sight below the picture."""
