@@ -73,6 +73,16 @@ class Page(unittest.TestCase):
         if "PSE52_SHOTS" in os.environ:
             self.driver.save_screenshot(str(Path(os.environ["PSE52_SHOTS"]) / f"{name}.png"))
 
+    def test_rows_that_have_no_room_are_counted(self) -> None:
+        """At the lower edge, up to the last of them."""
+        script = "".join(f"thread t{number} fifo {number} at 0\nrun 2\nend\n" for number in range(1, 61))
+        self.open(drawer("html")(timeline_of(read_trace(detail_of(script.encode(), 20).splitlines(keepends=True)))))
+        told = """(() => { const said = []; pen.fillText = (text) => said.push(text); draw(); delete pen.fillText; return said.filter((text) => text.endsWith("more")); })()"""
+        seen = int(self.does("Math.floor((height - 18 - AXIS - 6) / ROW(0))"))
+        self.assertEqual(self.does(told), [f"▼ {60 - seen} more"])
+        self.does("goUp(1e6)")
+        self.assertRegex(" ".join(self.does(told)), r"^▲ \d+ more$")
+
     def test_the_cursor(self) -> None:
         self.open(drawer("html")(timeline(CONTROLLER)))
         for tick, wanted in OVER.items():
