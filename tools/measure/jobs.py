@@ -141,6 +141,19 @@ def behind_a_lost_signal(seen: Seen, thread: str, period: int, phase: int, to: s
     return None
 
 
+def asleep_with_an_open_job(seen: Seen, thread: str, period: int, phase: int, count: int | None) -> int | None:
+    """When a thread whose sleeps end its jobs first sleeps although more are released than done, as none does by its own period and phase."""
+    done = [time for time in seen.calls(thread, "clock_nanosleep") if time > phase]
+    for found in seen.returned:
+        at = found.waited_since
+        if at is None or (found.event.name, found.event.call) != (thread, "clock_nanosleep"):
+            continue
+        released = max(0, (at - phase) // period + 1)
+        if bisect_right(done, at) < (released if count is None else min(released, count)):
+            return at
+    return None
+
+
 def in_its_first_job(seen: Seen, thread: str, release: int) -> bool:
     """Whether a thread lives at the end, and nothing tells that it has done the job of this release.
 

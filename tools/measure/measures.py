@@ -12,7 +12,7 @@ from fractions import Fraction
 
 from view.lines import CALLS, SIGNALS
 
-from .jobs import NEXT_JOB, OF_NO_THREAD, SLEEP, Jobs, NamesNothing, answered, behind_a_lost_signal, periodic, thread_of
+from .jobs import NEXT_JOB, OF_NO_THREAD, SLEEP, Jobs, NamesNothing, answered, asleep_with_an_open_job, behind_a_lost_signal, periodic, thread_of
 from .seen import EVENTS, Seen
 from .usage import (
     capacity_of, high_ticks, is_server, refill_waits, stops_of, ticks_of, waits_of)
@@ -112,6 +112,13 @@ def lost_signal(seen: Seen, words: Table) -> int | None:
     if words["kind"] != "periodic":
         return None
     return behind_a_lost_signal(seen, words["thread"], words["period"], words.get("phase", 0), words.get("to", SLEEP))
+
+
+def asleep(seen: Seen, words: Table) -> int | None:
+    """When the thread of a measure first sleeps although a job is released and not done; None where it never does."""
+    if words["kind"] != "periodic" or words.get("to", SLEEP) != SLEEP:
+        return None
+    return asleep_with_an_open_job(seen, words["thread"], words["period"], words.get("phase", 0), words.get("jobs"))
 
 
 def read_jobs(seen: Seen, words: Table) -> list[Figure]:

@@ -4,7 +4,7 @@ from __future__ import annotations
 from view.lines import Killed, Return
 
 from .jobs import SLEEP, NamesNothing, in_its_first_job
-from .measures import Measure, Table, jobs_of, lost_signal
+from .measures import Measure, Table, asleep, jobs_of, lost_signal
 from .seen import Seen
 
 NO_EFFECT = ("EDEADLK", "EINVAL", "EMSGSIZE", "EOVERFLOW", "EPERM")
@@ -16,7 +16,7 @@ def notes_of(seen: Seen, measures: list[Measure]) -> list[str]:
     found = []
     for measure in measures:
         try:
-            notes = measure.warning, _none_done(seen, measure), _lost(seen, measure), _ended(seen, measure), _not_told(seen, measure)
+            notes = measure.warning, _none_done(seen, measure), _later(seen, measure), _ended(seen, measure), _not_told(seen, measure)
         except NamesNothing as wrong:
             raise NamesNothing(f"measure '{measure.name}': {wrong}") from None
         found += filter(None, notes)
@@ -46,7 +46,7 @@ def notes_of_run(seen: Seen) -> list[str]:
     """What a reader of any figure must know: calls without an effect, an early end, and that the threads are not told."""
     notes = [f"'{call}' answered {result} {count_of(len(times))} and had no effect, first to '{times[0].name}' at {times[0].time} (docs/CALLS.md)"
              for (call, result), times in without_effect(seen).items()]
-    notes += [f"{event.signal} killed the process at {event.time}, and the run ends there: a thread let it through, and no line "
+    notes += [f"{event.signal} killed the process at {event.time}, and the run ends there: a thread does not mask it, and no line "
               f"'action {event.signal}' says what else it does" for event in kills(seen)]
     if not seen.closing:
         notes.append("the trace has no closing lines, as 'thread NAME ticks N' behind its end, so the tables have no threads and servers")
@@ -84,12 +84,24 @@ def _none_done(seen: Seen, measure: Measure) -> str | None:
             f"the thread is still in the first, or '{to}' is not what ends one")
 
 
-def _lost(seen: Seen, measure: Measure) -> str | None:
-    lost = lost_signal(seen, measure.words)
-    if lost is None:
-        return None
-    return (f"measure '{measure.name}': at {lost} its thread takes a signal of a timer that lost one before, since the last was "
-            "pending; no job ends for that release, and each job behind it counts as later than it is")
+def _later_than_it_is(seen: Seen, words: Table) -> tuple[int, str] | None:
+    """From when on the jobs of a measure count as later than they are, and why; None where they never do."""
+    if (lost := lost_signal(seen, words)) is not None:
+        return lost, "a timer expired while its last signal was still pending, so that a release has no signal (an overrun)"
+    if (slept := asleep(seen, words)) is not None:
+        return slept, "its thread sleeps although a job is released and not done, so that the period or the phase is another"
+    return None
+
+
+def _later(seen: Seen, measure: Measure) -> str | None:
+    found = _later_than_it_is(seen, measure.words)
+    return found and f"measure '{measure.name}': from {found[0]} on each job counts as later than it is, since {found[1]}"
+
+
+def later_in_many(seen: Seen, words: Table) -> list[str]:
+    """The same of one of many runs, in words that are the same for each."""
+    found = _later_than_it_is(seen, words)
+    return [f"measure '{words['name']}' counts jobs as later than they are, since {found[1]}"] if found else []
 
 
 def ends_behind_a_release(seen: Seen, words: Table) -> bool:

@@ -11,6 +11,7 @@ import json
 import os
 import signal
 import sys
+from dataclasses import dataclass, field
 from pathlib import Path
 from tempfile import TemporaryFile
 
@@ -18,7 +19,7 @@ sys.path.insert(0, str(Path(__file__).resolve().parents[1]))
 
 from measure.jobs import NamesNothing  # noqa: E402
 from measure.measures import filled  # noqa: E402
-from measure.notes import ends_behind_a_release, told_of_many  # noqa: E402
+from measure.notes import ends_behind_a_release, later_in_many, told_of_many  # noqa: E402
 from measure.seen import Seen  # noqa: E402
 from sweep.plan import Run, Sweep, read_sweep  # noqa: E402
 from view.lines import NotATraceLine, TooManyLines, read_trace, written_by  # noqa: E402
@@ -88,33 +89,40 @@ def row_of(sweep: Sweep, run: Run, program: list[str], streams: Streams) -> tupl
         return [*map(str, run.values), "0", str(wrong), *[""] * sweep.figures], [], []
     except OSError as error:
         status, told, said = NOT_STARTED, b"", f"{program[0]}: {error.strerror}".encode()
-    fault = fault_of(status, told, said)
-    figures, ended, notes = [""] * sweep.figures, [], []
+    found = Measured([""] * sweep.figures, [fault_of(status, told, said)])
     if status == 0:
         try:
-            seen = Seen(read_trace(told.splitlines(keepends=True)), sweep.command == "detail")
-            figures, fault, ended = measured(sweep, seen, sweep.values_of(run))
-            notes = told_of_many(seen)
+            found = measured(sweep, Seen(read_trace(told.splitlines(keepends=True)), sweep.command == "detail"), sweep.values_of(run))
         except NotATraceLine as wrong:
-            fault = str(wrong)
-    return [*map(str, run.values), str(status), fault, *figures], ended, notes
+            found.faults.append(str(wrong))
+    return [*map(str, run.values), str(status), "; ".join(filter(None, found.faults)), *found.figures], found.ended, found.told
 
 
-def measured(sweep: Sweep, seen: Seen, values: dict[str, int]) -> tuple[list[str], str, list[str]]:
-    """The figures of all measures, why some have none, and the measures whose thread ended behind a release.
+@dataclass
+class Measured:
+    """What is measured of a run: the figures of all measures, and why some have none; the measures whose thread ended behind a release;
+    and what a reader of the figures must know."""
 
-    The cells of a measure that has none are empty, and those of the others stand.
-    """
-    figures, faults, ended = [], [], []
+    figures: list[str] = field(default_factory=list)
+    faults: list[str] = field(default_factory=list)
+    ended: list[str] = field(default_factory=list)
+    told: list[str] = field(default_factory=list)
+
+
+def measured(sweep: Sweep, seen: Seen, values: dict[str, int]) -> Measured:
+    """The cells of a measure that has no figures are empty, and those of the others stand."""
+    found = Measured(told=told_of_many(seen))
     for measure in sweep.measures:
+        words = filled(measure.words, values)
         try:
-            figures += measure.figures(seen, values)
+            found.figures += measure.figures(seen, values)
         except NamesNothing as wrong:
-            figures += [""] * len(measure.columns)
-            faults.append(str(wrong))
+            found.figures += [""] * len(measure.columns)
+            found.faults.append(str(wrong))
         else:
-            ended += [measure.name] if ends_behind_a_release(seen, filled(measure.words, values)) else []
-    return figures, "; ".join(faults), ended
+            found.ended += [measure.name] if ends_behind_a_release(seen, words) else []
+            found.told += later_in_many(seen, words)
+    return found
 
 
 def fault_of(status: int, told: bytes, said: bytes) -> str:

@@ -68,7 +68,7 @@ class WhatIsGiven(unittest.TestCase):
         script = b"# horizon 20\ntimer t rt1 0\nthread a fifo 5 at 0\ntimer_settime t abs 3 0\nrun 8\nend\n"
         ended = measure([], script)
         self.assertTrue(ended.stdout.startswith(b"3 ticks, of which the processor ran for 3"), ended.stdout)
-        self.assertIn(b"rt1 killed the process at 3, and the run ends there: a thread let it through", ended.stderr)
+        self.assertIn(b"rt1 killed the process at 3, and the run ends there: a thread does not mask it", ended.stderr)
 
     def test_a_trace_without_closing_lines_says_that_no_threads_are_told(self) -> None:
         ended = measure([], b"0 start a\n0 dispatch a 5\n3 idle\n10 end\n")

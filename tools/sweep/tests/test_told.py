@@ -1,4 +1,4 @@
-"""What a sweep says of its runs beside the table: calls without an effect, runs that a signal killed, refusals, figures that some runs lack."""
+"""What a sweep says of its runs beside the table: calls without an effect, signals that kill, late releases, refusals, figures that some lack."""
 from __future__ import annotations
 
 import csv
@@ -55,6 +55,46 @@ name = "low"
 kind = "ticks"
 thread = "low"
 """
+# c is released each `step` ticks, and takes 3 at most; d is released by a timer each 10, of which a `work` of 25 takes two and more.
+RELEASED = """\
+timer beat rt1 0
+thread c fifo 9 at 0
+    sigmask block rt1
+    set 0
+    forever
+        run 1
+        add {step}
+        clock_nanosleep reg
+    end
+end
+thread d fifo 8 at 0
+    sigmask block rt1
+    timer_settime beat abs 10 10
+    forever
+        sigwaitinfo rt1
+        run {work}
+    end
+end
+"""
+PERIODS = """\
+script = "two.task.in"
+horizon = 100
+[values]
+step = [10, 20]
+work = [2, 25]
+[[measure]]
+name = "c"
+kind = "periodic"
+thread = "c"
+period = 10
+[[measure]]
+name = "d"
+kind = "periodic"
+thread = "d"
+period = 10
+phase = 10
+to = "call sigwaitinfo"
+"""
 
 
 class Told(Folder):
@@ -69,6 +109,14 @@ class Told(Folder):
         ended = self.sweep("--jobs", "2")
         self.assertNotIn("no effect", ended.stderr)
         self.assertNotIn("killed", ended.stderr)
+
+    def test_jobs_that_count_as_later_than_they_are(self) -> None:
+        self.write(PERIODS, RELEASED)
+        ended = self.sweep("--jobs", "2")
+        for measure, why, first in (("c", "its thread sleeps although", "step = 20, work = 2"), ("d", "a timer expired while", "step = 10, work = 25")):
+            self.assertRegex(ended.stderr, f"in 2 of 4 runs measure '{measure}' counts jobs as later than they are, since {why} .*; the first has {first}\n")
+        self.write(PERIODS.replace("[10, 20]", "[10]").replace("[2, 25]", "[2]"), RELEASED)
+        self.assertNotIn("later than", self.sweep("--jobs", "2").stderr)
 
     def test_a_refusal_in_words(self) -> None:
         self.write()

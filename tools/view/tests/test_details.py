@@ -278,7 +278,7 @@ class Pictures(unittest.TestCase):
                                   f"loop 3\n{job}end\nsigwaitinfo rt1\nrun 28\nforever\n{job}end\nend\n").encode(), 120))
         words = 'thread=c period=10 phase=10 to="call sigwaitinfo"'
         notes = mark_jobs(seen, [measure_of_words(words)])
-        self.assertIn("measure 'c': at 69 its thread takes a signal of a timer that lost one before", notes[0])
+        self.assertIn("measure 'c': from 69 on each job counts as later than it is, since a timer expired", notes[0])
         with self.assertRaisesRegex(NamesNothing, "none is done, for 'return c yield'"):
             mark_jobs(seen, [measure_of_words('thread=c period=10 phase=10 to="return c yield"')])
 
