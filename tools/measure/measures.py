@@ -285,7 +285,9 @@ def _check_value(name: str, key: str, value: object) -> None:
     if key in NUMBERS:
         is_place = isinstance(value, str) and PLACE.fullmatch(value)
         if not is_place and (type(value) is not int or value < NUMBERS[key]):
-            raise WrongMeasure(f"measure '{name}': '{key}' is a number of at least {NUMBERS[key]}, or \"{{name}}\"")
+            unit = "; all times are in ticks, without a unit" if re.fullmatch(r"\d+ ?[a-z]+", str(value)) else ""
+            raise WrongMeasure(f"measure '{name}': '{key}' is a number of at least {NUMBERS[key]}, or in a sweep \"{{name}}\", "
+                               f"and not {value!r}{unit}")
     elif key == "percentiles":
         if not isinstance(value, list) or not all(type(percent) is int and 1 <= percent <= 100 for percent in value):
             raise WrongMeasure(f"measure '{name}': 'percentiles' is a list of numbers from 1 to 100")

@@ -75,7 +75,8 @@ def _none_done(seen: Seen, measure: Measure) -> str | None:
     jobs = jobs_of(seen, measure.words)
     count, to = jobs.count, ends_by(measure)
     if not count:
-        raise NamesNothing(f"'{measure.words.get('from', 'a release')}' begins no job in this trace")
+        raise NamesNothing(f"'{measure.words['from']}' begins no job in this trace" if "from" in measure.words else
+                           f"no job is released up to the end of the run or of the thread: the first is due at {measure.words.get('phase', 0)}")
     if jobs.finished:
         return None
     if not is_starved(seen, measure):

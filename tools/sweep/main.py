@@ -190,6 +190,8 @@ def carried_out(said: argparse.Namespace) -> Status:
         gnuplot()
     for warning in filter(None, (measure.warning for measure in sweep.measures)):
         say(TOOL, warning)
+    if not sweep.measures:
+        say(TOOL, "nothing is measured, since the file has no table [[measure]]")
     program = program_of(said.program)
     path, kept = carry_out(sweep, said, program)
     rows = read_table(path)

@@ -145,7 +145,7 @@ def read_sweep(path: Path) -> Sweep:
     _only(said, {"script", "horizon", "values", "measure"}, "the file")
     script = said.get("script")
     if not isinstance(script, str):
-        raise WrongSweep("'script' is the name of a file")
+        raise WrongSweep("the file needs 'script': the name of the script's file, in quotation marks")
     template = _text(path.parent / script)
     values = _values(said.get("values", {}))
     sweep = Sweep(path.parent, path.stem, template, _horizon(said.get("horizon")), values, _measures(said.get("measure", [])))
@@ -181,7 +181,7 @@ def _is_number(value: object) -> bool:
 def _horizon(said: object) -> int | str:
     if _is_number(said) or (isinstance(said, str) and PLACE.fullmatch(said)):
         return said
-    raise WrongSweep("'horizon' is a number of ticks, or \"{name}\"")
+    raise WrongSweep("the file needs 'horizon': a number of ticks, or \"{name}\"")
 
 
 def _values(said: object) -> dict[str, list[int]]:

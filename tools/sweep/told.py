@@ -19,7 +19,7 @@ def refusals(sweep: Sweep, rows: Rows) -> Iterator[str]:
     without = [number for number, row in enumerate(rows) if row["status"] != "0"]
     if without:
         first = rows[without[0]]
-        yield f"{len(without)} of {len(rows)} runs have no trace; the first says: {first['fault']}"
+        yield f"{len(without)} of {len(rows)} runs have no trace; the first ended with status {first['status']}: {first['fault']}"
         if first["status"] == REFUSED and first["fault"].startswith("refused "):
             yield from _explained(sweep, without[0])
 

@@ -131,7 +131,7 @@ def fault_of(status: int, told: bytes, said: bytes) -> str:
         return ""
     if status < 0:
         return f"killed by signal {-status}"
-    return _first_line(told) or _first_line(said)
+    return _first_line(told) or _first_line(said) or "it wrote nothing"
 
 
 def _first_line(text: bytes) -> str:

@@ -76,6 +76,8 @@ class Starved(unittest.TestCase):
     def test_no_job_begins(self) -> None:
         with self.assertRaisesRegex(NamesNothing, "^measure 'jobs': 'return low yield' begins no job"):
             notes_of(self.seen(HOG + LOW, 81), [measure_of_words('from="return low yield" to="return low gettime"')])
+        with self.assertRaisesRegex(NamesNothing, "^measure 'low': no job is released up to the end .*: the first is due at 81$"):
+            notes_of(self.seen(HOG + LOW, 81), [measure_of_words("thread=low period=20 phase=81")])
 
     def test_the_measure_that_is_wrong_is_named(self) -> None:
         """Of several only one is wrong: hog sleeps at 9, 20 and so on, and not once in 5 ticks."""

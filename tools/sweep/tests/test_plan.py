@@ -60,6 +60,15 @@ class Plan(Folder):
             with self.assertRaisesRegex(WrongSweep, named):
                 read_sweep(self.write(f"{waits}{wrong}\n", script))
 
+    def test_what_is_missing_or_has_a_unit_is_named(self) -> None:
+        for wrong, told in ((TOML.replace("horizon = 20", ""), "the file needs 'horizon': a number of ticks"),
+                            (TOML.replace('script = "two.task.in"', ""), "the file needs 'script': the name"),
+                            (TOML + '[[measure]]\nname = "j"\nkind = "periodic"\nthread = "a"\nperiod = "20ms"\n',
+                             "'period' is a number of at least 1, or in a sweep \"{name}\", and not '20ms'; all times are in ticks, without a unit")):
+            with self.assertRaises(WrongSweep) as raised:
+                read_sweep(self.write(wrong))
+            self.assertIn(told, str(raised.exception))
+
     def test_words_and_files_that_are_wrong(self) -> None:
         self.write()
         for words in (["--jobs", "0"], ["--frob"], ["--engine", "ls"]):

@@ -74,7 +74,7 @@ class Sweeps(Folder):
     def test_runs_without_a_trace_are_told(self) -> None:
         self.write()
         ended = self.sweep("--jobs", "2")
-        self.assertIn("3 of 9 runs have no trace; the first says: refused 2 5 NumberRange", ended.stderr)
+        self.assertIn("3 of 9 runs have no trace; the first ended with status 2: refused 2 5 NumberRange", ended.stderr)
         self.assertIn("measure 'yield': from 'start' counts the first job", ended.stderr)
         self.write(TOML.replace("[2, 5, 0]", "[0]"))
         ended = self.sweep("--jobs", "2")

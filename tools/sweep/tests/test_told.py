@@ -121,10 +121,17 @@ class Told(Folder):
     def test_a_refusal_in_words(self) -> None:
         self.write()
         ended = self.sweep("--jobs", "2")
-        self.assertIn("3 of 9 runs have no trace; the first says: refused 2 5 NumberRange", ended.stderr)
+        self.assertIn("3 of 9 runs have no trace; the first ended with status 2: refused 2 5 NumberRange", ended.stderr)
         self.assertIn("that is the script with long = 0, when = 0:\nline 2, column 9: NumberRange: 0 is out of the range of this number", ended.stderr)
         self.write(TOML.replace("[2, 5, 0]", "[2, 5]"))
         self.assertNotIn("NumberRange", self.sweep("--jobs", "2").stderr)
+
+    def test_a_program_that_says_nothing_and_a_file_that_measures_nothing(self) -> None:
+        self.write(TOML[:TOML.index("[[measure]]")])
+        ended = self.sweep("--jobs", "2", program="sh -c 'exit 3'")
+        self.assertEqual(ended.returncode, 2)
+        self.assertIn("9 of 9 runs have no trace; the first ended with status 3: it wrote nothing\n", ended.stderr)
+        self.assertIn("nothing is measured, since the file has no table [[measure]]\n", ended.stderr)
 
     def test_a_figure_that_a_run_lacks_leaves_the_others(self) -> None:
         """Before 6 nobody tells that `late` has a server. low runs its tick in 3, and its last one in 4, which is the end of the first run."""
