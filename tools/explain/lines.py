@@ -3,6 +3,7 @@ from __future__ import annotations
 
 import re
 
+import trace_lines
 from forms import DECLARED, GREATEST_NUMBER, OPERAND, RANGES, REAL, SERVER_WORDS, SIGNAL, SIGNAL_SET, is_place
 from reader import Entry, FaultKind, is_number, operand_fault, read_line
 from words import is_signal
@@ -77,19 +78,7 @@ def _unknown_word(number: int, words: list[Word], forms: Forms) -> Found:
         return Found(1, number, FaultKind.UnknownWord, words[texts.index("strict")], "`strict` is a policy of version 2",
                      "write `version 2` as the first line, or `sporadic`")
     if first.text not in forms:
-        if first.text.startswith("//") or first.text.startswith(";") or first.text.startswith("--"):
-            return Found(1, number, FaultKind.UnknownWord, first, f"'{first.text}' begins no line", "a comment begins with `#`")
-        if first.text.lower() in ELSE:
-            return Found(1, number, FaultKind.UnknownWord, first, "there is no `else`",
-                         "end the block of `if R`, and open one of `unless R` with the same R behind it")
-        meant = meant_by(first.text)
-        if meant is None and nearest(first.text, ["version"]):
-            return Found(1, number, FaultKind.UnknownWord, first, f"'{first.text}' begins no line of a script",
-                         "did you mean `version 2`? That is the first line with words")
-        known = f"`{meant}` is what does it here" if first.text.lower() in MEANT else f"did you mean `{meant}`?"
-        behind = f"`{first.text}` stands behind another word: " if first.text in KEYWORDS else ""
-        return Found(1, number, FaultKind.UnknownWord, first, f"'{first.text}' begins no line of a script",
-                     f"{known} {_patterns(meant, forms)}" if meant else f"{behind}docs/SCRIPT.md, Patterns, has every line that there is")
+        return Found(1, number, FaultKind.UnknownWord, first, *_no_first_word(texts, forms))
     if (server := _server(texts)) is not None:
         return Found(1, number, FaultKind.UnknownWord, _policy(words), *server)
     form = best_form(texts, forms)
@@ -106,6 +95,26 @@ def _unknown_word(number: int, words: list[Word], forms: Forms) -> Found:
         near = f"{joined[1]} {joined[2]}"
     return Found(1, number, FaultKind.UnknownWord, words[at], f"'{texts[at]}' may not stand behind `{behind}`",
                  f"did you mean `{near}`?" if near else f"there stands {listed(expected)}{pattern}")
+
+
+def _no_first_word(texts: list[str], forms: Forms) -> tuple[str, str]:
+    """Of a line whose first word begins none: what is wrong, and what to write."""
+    first = texts[0]
+    wrong = f"'{first}' begins no line of a script"
+    if first.startswith(("//", ";", "--")):
+        return f"'{first}' begins no line", "a comment begins with `#`"
+    if first.lower() in ELSE:
+        return "there is no `else`", "end the block of `if R`, and open one of `unless R` with the same R behind it"
+    if trace_lines.read_line(" ".join(texts).encode()) is not None:
+        return wrong, "this is a line of a trace, which pse52-view draws and pse52-measure measures"
+    if first == "task" and len(texts) == 6 and all(map(is_number, texts[2:])):
+        return wrong, "this is a line of tasks, which `pse52 rta N` reads; a script has `thread NAME fifo P at N`"
+    meant = meant_by(first)
+    if meant is None and nearest(first, ["version"]):
+        return wrong, "did you mean `version 2`? That is the first line with words"
+    known = f"`{meant}` is what does it here" if first.lower() in MEANT else f"did you mean `{meant}`?"
+    behind = f"`{first}` stands behind another word: " if first in KEYWORDS else ""
+    return wrong, f"{known} {_patterns(meant, forms)}" if meant else f"{behind}docs/SCRIPT.md, Patterns, has every line that there is"
 
 
 def _lacking(texts: list[str], at: int, forms: Forms) -> list[str]:
@@ -253,7 +262,7 @@ def _name(place: str, text: str) -> tuple[str, str]:
     if place == SIGNAL:
         return f"'{text}' is no signal", "signals are `rt0` to `rt31`"
     if place == SIGNAL_SET:
-        return f"'{text}' is no set of signals", "a set is `all`, `none`, or signals between commas, as `rt1,rt5`"
+        return f"'{text}' is no set of signals", "a set is `all`, `none`, or signals between commas, of `rt0` to `rt31`, as `rt1,rt5`"
     if len(text) > 32:
         return f"the name has {len(text)} bytes", "a name has at most 32"
     if re.fullmatch(r"[A-Za-z][A-Za-z0-9_]*", text):

@@ -1,6 +1,7 @@
 """Patterns as the pages write them, and the words that come near a word of the language."""
 from __future__ import annotations
 
+import re
 from difflib import get_close_matches
 
 from forms import DECLARED, FORMS, OPERAND, RANGES, SIGNAL, SIGNAL_SET, Form, is_place
@@ -44,9 +45,10 @@ def pattern_of(form: Form) -> str:
 
 
 def nearest(word: str, words: list[str]) -> str | None:
-    """The word that was meant, if one is near."""
+    """The word that was meant, if one is near; also where it has the standard's prefix, as SCHED_FIFO."""
     small = {known.lower(): known for known in words}
-    found = [word.lower()] if word.lower() in small else get_close_matches(word.lower(), small, 1, 0.6)
+    plain = re.sub("^(sched|pthread_prio|pthread_mutex)_", "", word.lower())
+    found = [plain] if plain in small else get_close_matches(word.lower(), small, 1, 0.6)
     return small[found[0]] if found else None
 
 

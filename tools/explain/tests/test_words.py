@@ -49,12 +49,19 @@ STEPS = [
     ("lock s", 6, "WrongKind: `s` is a semaphore, and a mutex belongs here; use a name of that kind (the pattern is `lock M`)"),
     ("timer_settime k foo 3 0", 17, "UnknownWord: 'foo' may not stand behind `timer_settime k`; there stands `rel` or `abs`; the nearest pattern is `timer_settime K rel N N`"),
     ("mutex_lock m", 1, "UnknownWord: 'mutex_lock' begins no line of a script; `lock` is what does it here (`lock M`)"),
+    ("0 start a", 1, "UnknownWord: '0' begins no line of a script; this is a line of a trace, which pse52-view draws and pse52-measure measures"),
+    ("0 stop a", 1, "UnknownWord: '0' begins no line of a script; `0` stands behind another word: docs/SCRIPT.md, Patterns, has every line that there is"),
+    ("task a 3 1 10 0", 1, "UnknownWord: 'task' begins no line of a script; this is a line of tasks, which `pse52 rta N` reads; a script has `thread NAME fifo P at N`"),
+    ("sigwaitinfo SIGUSR1", 13, "BadName: 'SIGUSR1' is no set of signals; a set is `all`, `none`, or signals between commas, of `rt0` to `rt31`, as `rt1,rt5` (the pattern is `sigwaitinfo SET`)"),
     ("sleep 3 4", 1, "UnknownWord: 'sleep' begins no line of a script; `nanosleep` is what does it here (`nanosleep N`)"),
 ]
 
 # The head of a thread, the column of its fault, and what is told of it.
 HEADS = [
     ("thread x fifo at 0", 15, "UnknownWord: a word is missing before `at`; write `thread NAME fifo P at N`"),
+    ("thread x SCHED_RR 5 at 0", 10, "UnknownWord: 'SCHED_RR' may not stand behind `thread x`; did you mean `rr`?"),
+    ("mutex n PTHREAD_PRIO_INHERIT", 9, "UnknownWord: 'PTHREAD_PRIO_INHERIT' may not stand behind `mutex n`; did you mean `inherit`?"),
+    ("mutex n none PTHREAD_MUTEX_RECURSIVE", 14, "WordCount: 'PTHREAD_MUTEX_RECURSIVE' is a word too many; did you mean `recursive`?"),
     ("action rt1 h", 12, "UnknownWord: a word is missing before `h`; write `action SIG run H`"),
     ("queue q 3 8 nonblocking", 13, "WordCount: 'nonblocking' is a word too many; did you mean `nonblock`?"),
     ("thread x 5 at 0", 10, "UnknownWord: a word is missing before `5`; write `thread NAME fifo P at N` or `thread NAME rr P at N`"),
