@@ -49,9 +49,13 @@ tell_terminal() {
 
 # The faults of the script, as tools/explain shows them. Of another text, or where that cannot, the line that is refused.
 explain_refusal() {
-    case $1 in rta) page=docs/RTA.md ;; audit) page=docs/AUDIT.md ;; *) page=docs/SCRIPT.md ;; esac
+    case $1 in
+        rta) where='a line is: task NAME PRIORITY COST PERIOD BLOCKING (docs/RTA.md)' ;;
+        audit) where='a line is: server NAME PERIOD BUDGET MAX (docs/AUDIT.md)' ;;
+        *) where="'pse52 explain SCRIPT' tells its faults in words (docs/SCRIPT.md)" ;;
+    esac
     if [ -z "$kept_script" ]; then
-        say "the text is refused: standard output has its line and the kind of its fault, which $page explains"
+        say "the text is refused, in the line and for the fault that standard output names; $where"
         return
     fi
     case $1 in
@@ -62,7 +66,7 @@ explain_refusal() {
     refusal=$("$program" "$@" <"$kept_script" 2>/dev/null | head -n 1)
     line=$(printf '%s\n' "$refusal" | cut -d ' ' -f 2)
     words=$(sed -n "${line}p" "$kept_script" | tr -cd ' -~' | cut -c 1-60)
-    say "line $line is refused, $(printf '%s\n' "$refusal" | cut -d ' ' -f 4): '$words' ($page, faults)"
+    say "line $line is refused, $(printf '%s\n' "$refusal" | cut -d ' ' -f 4): '$words'; $where"
 }
 
 # Which line breaks which rule for which server, as tools/explain/breach.py tells it.

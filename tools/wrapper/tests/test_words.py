@@ -122,7 +122,7 @@ class Words(unittest.TestCase):
         self.checkout.write("t.rta", "first\nsecond\nthird\n")
         ended = self.checkout.run("rta", "7", "t.rta", "--explain")
         self.assertEqual((ended.status, ended.out), (2, "refused 2 6 PeriodRange\n"))
-        self.assertEqual(ended.err, "pse52: line 2 is refused, PeriodRange: 'second' (docs/RTA.md, faults)\n")
+        self.assertEqual(ended.err, "pse52: line 2 is refused, PeriodRange: 'second'; a line is: task NAME PRIORITY COST PERIOD BLOCKING (docs/RTA.md)\n")
 
     def test_a_line_that_differs_is_shown(self) -> None:
         self.checkout.put_built()
