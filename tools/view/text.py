@@ -55,18 +55,12 @@ class Columns:
     """Which column an instant has. The last column is that of the end of the run."""
 
     def __init__(self, timeline: Timeline, width: int) -> None:
-        whole, ticks = [(timeline.start, timeline.end, False)], timeline.end - timeline.start
-        parts = whole if ticks < width else parts_of(timeline.instants, width - 1, len(CUT) + 1, 2.0)
-        kept = sum(end - start for start, end, cut in parts if not cut)
-        step = nice_step(-(-kept // max(1, width - 1)))
-        self.parts = self._laid(parts, step)
-        while self._wide() > width and len(parts) < width // 2:
-            step = nice_step(step + 1)
-            self.parts = self._laid(parts, step)
-        if self._wide() > width:
-            step = nice_step(-(-ticks // max(1, width - 1)))
-            self.parts = self._laid(whole, step)
-        self.step = step
+        ticks = timeline.end - timeline.start
+        parts = [(timeline.start, timeline.end, False)] if ticks < width else parts_of(timeline.instants, width - 1, len(CUT) + 1, 2.0)
+        self.step, self.parts = 1, self._laid(parts, 1)
+        while self._wide() > width:
+            self.step = nice_step(self.step + 1)
+            self.parts = self._laid(parts, self.step)
         self._starts = [part.start for part in self.parts]
         self.count = self._wide()
 
@@ -95,8 +89,6 @@ class Columns:
     def whole_ticks(self, column: int) -> int:
         """How many ticks a column stands for."""
         part = next(p for p in reversed(self.parts) if p.column <= column)
-        if part.cut or column >= part.column + part.columns:
-            return 0
         return min(part.step, part.end - part.start - (column - part.column) * part.step)
 
 
@@ -259,9 +251,9 @@ def ruler(columns: Columns, killed: int | None) -> tuple[str, str]:
 def legend(timeline: Timeline, columns: Columns, letters: dict[int, str], width: int) -> list[str]:
     """What each sign of the picture is: of those alone that it has."""
     lines = _priorities_told(letters, width)
-    told = signs_told(timeline, columns)
-    if told:
-        lines += listed("", told, width)
+    lines += listed("", signs_told(timeline), width)
+    if columns.step > 1:
+        lines += wrapped("a small letter: it runs in a part of the column; another sign: in a part of it at least", width)
     if timeline.mutexes:
         lines += listed("owners: ", owners_told(timeline), width)
     kinds = {mark.kind for thread in timeline.threads for mark in thread.marks}
@@ -283,16 +275,14 @@ def _priorities_told(letters: dict[int, str], width: int) -> list[str]:
     return listed("priority: ", shown, width) if shown else ["no thread ran"]
 
 
-def signs_told(timeline: Timeline, columns: Columns) -> list[str]:
-    """What stands where no letter does, and what a small letter is."""
+def signs_told(timeline: Timeline) -> list[str]:
+    """What stands where no letter does."""
     spans = [span for thread in timeline.threads for span in thread.spans]
     signs = {sign_of(span) for span in spans if span.state is not State.RUNNING}
     frames = {FRAMES[span.cleanup] for span in spans if span.frame}
     told = [f"{sign} {what}" for sign, what in (*SIGNS.values(), *FRAMES.values()) if (sign, what) in signs | frames]
     if timeline.idle:
         told.append(f"{IDLE} the processor is idle")
-    if columns.step > 1:
-        told.append("a small letter: it runs in a part of the column")
     return told
 
 

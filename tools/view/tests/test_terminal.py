@@ -4,7 +4,7 @@ from __future__ import annotations
 import unittest
 
 from view.lines import Trace
-from view.text import Columns, draw, letters_of, mark_rows, owners_told, state_row
+from view.text import Columns, draw, letters_of, mark_rows, owners_told, ruler, state_row
 from view.timeline import Mark, MarkKind, Owned, Span, State, ThreadLine, Timeline
 
 from .worked import timeline_of_text
@@ -72,6 +72,7 @@ class Signs(unittest.TestCase):
             timeline = seen([Span(at, at + 1, RUN, at + 1) for at in range(count)], count)
             self.assertEqual((letters_of(timeline.priorities)[1], letters_of(timeline.priorities)[count]), (letter, "A"))
             self.assertTrue(rows(timeline, 300)[-1].endswith(told), count)
+            self.assertEqual(rows(timeline, 300)[-1].count(", "), min(count, 26) - 1)
             self.assertTrue(rows(timeline, 300)[-1].startswith(f"priority: A {count}, B {count - 1}, "), count)
 
     def test_handlers_have_a_row(self) -> None:
@@ -85,6 +86,8 @@ class Signs(unittest.TestCase):
             marks = [Mark(3, kind, "", 0) for kind in kinds[:count]]
             timeline = seen([], 9, marks)
             self.assertEqual(mark_rows(timeline.threads[0], Columns(timeline, 40)), ["   " + sign for sign in column])
+        several = seen([], 9, [Mark(1, MarkKind.EXIT, "", 0), *(Mark(3, kind, "", 0) for kind in kinds[:4])])
+        self.assertEqual(mark_rows(several.threads[0], Columns(several, 40)), [" x >", "   s"])
 
     def test_what_each_mark_is(self) -> None:
         told = "marks: > start, x exit, c cancel, s deliver, e an error is returned, k the clock is set, ^ activate, ! exhaust, p plan, + refill, " \
@@ -100,6 +103,25 @@ class Signs(unittest.TestCase):
         self.assertEqual(owners_told(timeline), ["1 a", "2 b"])
 
 
+    def test_of_more_threads_than_signs_those_have_one_that_own_a_mutex(self) -> None:
+        """There are 9 digits, 26 small letters and 26 large ones."""
+        for count, last in ((61, "Z"), (62, "1")):
+            threads = [ThreadLine(f"t{number}") for number in range(count)]
+            timeline = Timeline(threads, 8, [], None, True, Trace([], []), mutexes=[Owned("m", [(1, 3, f"t{count - 1}", 0)])])
+            self.assertEqual([line for line in draw(timeline, 1000).splitlines() if line.startswith("m ")], [f"m     {last}{last}"])
+
+    def test_lists_at_each_of_their_changes(self) -> None:
+        """In the part of the run that is shown: a change at its end is none of it. A list without a thread is not told."""
+        facts = ["2 list 9 a", "2 list 5 c d", "4 list 9", "4 list 5 d c", "6 list 5", "8 list 9 a"]
+        timeline = timeline_of_text("0 idle\n" + "".join(f"{fact}\n" for fact in facts) + "9 end\n")
+        told = ["  2: 9 a, 5 c d", "  4: 5 d c", "  6: all empty", "  8: 9 a"]
+        for start, end, first, last in ((0, 9, 0, 4), (2, 8, 0, 3), (3, 9, 1, 4), (4, 7, 1, 3)):
+            timeline.start, timeline.end = start, end
+            self.assertEqual(draw(timeline, 100, lists=True).splitlines()[-1 - last + first:], ["lists, head first:", *told[first:last]])
+            self.assertEqual(draw(timeline, 100, lists=True).splitlines()[-2 - last + first], "")
+        self.assertNotIn("lists", draw(timeline, 100))
+
+
 class ManyTicks(unittest.TestCase):
     """100 ticks do not go into 40 columns; one for 5 is the least step of 1, 2, 5 and so on that does."""
 
@@ -108,7 +130,13 @@ class ManyTicks(unittest.TestCase):
                  Span(31, 32, RUN, 9), Span(32, 100, READY)]
         self.assertEqual(draw(seen(spans, 100, idle=[(22, 24)]), 45).splitlines(), [
             "ticks 0 to 100, a column is 5 ticks; idle for", "  2", "tick 0         50", "     |.........|..........", "a    AbbB..a-------------", "idle     i",
-            "", "priority: A 9, B 3", "- ready, . sleeping, i the processor is idle,", "  a small letter: it runs in a part of the", "  column"])
+            "", "priority: A 9, B 3", "- ready, . sleeping, i the processor is idle", "a small letter: it runs in a part of the", "  column; another sign: in a part of it at",
+            "  least"])
+
+    def test_what_a_small_letter_is(self) -> None:
+        """It is said where a column is more than a tick."""
+        for ticks, said in ((39, 0), (40, 1)):
+            self.assertEqual(draw(seen([Span(0, ticks, RUN, 9)], ticks), 45).count("a small letter: "), said)
 
     def test_the_last_column_may_be_a_part(self) -> None:
         """Of 98 ticks it has three, and who runs in all of them has all of it."""
@@ -138,12 +166,56 @@ class Ruler(unittest.TestCase):
         self.assertEqual(self.ruler(0, 12), ["0         10", "|.........|.."])
         self.assertEqual(self.ruler(0, 32), ["0         10        20        30", "|.........|.........|.........|.."])
 
+    def test_between_two_numbers_is_a_blank(self) -> None:
+        self.assertEqual(self.ruler(1000, 1010), ["1000 1005", "|....|....."])
+        self.assertEqual(self.ruler(10000, 10010), ["10000", "|....|....."])
+
     def test_a_part_of_a_run(self) -> None:
         self.assertEqual(self.ruler(7, 24), ["7  10        20", "|..|.........|...."])
         self.assertEqual(self.ruler(109, 121), ["109", "||.........|."])
 
     def test_a_cut_drawn_by_hand(self) -> None:
         self.assertEqual(draw(timeline_of_text(CUT)), CUT_TEXT)
+
+    def test_a_run_that_has_room_is_not_cut(self) -> None:
+        """From 100 on, with a gap of 34 or 35 ticks behind five of one: 39 ticks and the end have 40 columns."""
+        for end, ruler in ((139, "|.........|.........|.........|........."), (140, "|....|//|.")):
+            events = [*range(100, 106), end]
+            self.assertEqual(self.ruler_of(events, 45)[1], ruler)
+
+    def ruler_of(self, instants: list[int], width: int) -> tuple[str, str]:
+        """The ruler of a run in which something happens at these instants."""
+        timeline = seen([], instants[-1], [Mark(at, MarkKind.RELEASE, "", -1, "a job") for at in instants], start=instants[0])
+        return ruler(Columns(timeline, width - 5), None)
+
+    def test_when_a_gap_is_cut(self) -> None:
+        """39 of the 40 columns are for 390 ticks: of 30 gaps of ten, each one column wide, the middle one is told badly, and a gap of 90 is nine.
+
+        Ten ticks stay at each side of a cut. Where the others have 20 ticks, and so two columns, nothing is cut.
+        """
+        tens = [*range(0, 301, 10)]
+        self.assertEqual(self.ruler_of([*tens, 390], 45), ("0         100       200          380", "|.........|.........|.........|//|."))
+        whole = "|.........|.........|.........|........."
+        self.assertEqual(self.ruler_of([*tens, 389], 45)[1], whole)
+        self.assertEqual(self.ruler_of([*range(0, 301, 20), 390], 45)[1], whole)
+
+    def test_the_last_column_of_a_part(self) -> None:
+        """Of gaps of 12, and one of 100, it has two ticks: 310 and 311 before the cut, and 398 and 399 behind it."""
+        timeline = seen([], 400, [Mark(at, MarkKind.RELEASE, "", -1, "a job") for at in (*range(0, 301, 12), 400)])
+        columns = Columns(timeline, 40)
+        self.assertEqual([(part.start, part.end, part.column, part.step, part.cut) for part in columns.parts],
+                         [(0, 312, 0, 10, False), (312, 388, 32, 10, True), (388, 400, 34, 10, False)])
+        for start, end, row in ((290, 312, " " * 29 + "AAA//"), (300, 311, " " * 30 + "Aa//"), (388, 400, " " * 32 + "//AA"), (389, 399, " " * 32 + "//aa")):
+            self.assertEqual(state_row(ThreadLine("a", [Span(start, end, RUN, 9)]), columns, {9: "A"}), row)
+
+    def test_ten_cuts_in_forty_columns(self) -> None:
+        """Each gap is eight times the one before, and between them is a tick; each is cut, and all of that has room."""
+        instants = [0, 1]
+        for power in range(1, 11):
+            instants += [instants[-1] + 8 ** power, instants[-1] + 8 ** power + 1]
+        told = self.ruler_of(instants, 45)[1]
+        self.assertLessEqual(len(told), 40)
+        self.assertGreaterEqual(told.count("//"), 9)
 
     def test_each_row_has_the_cut(self) -> None:
         """Who owns a mutex, or is in a handler, does so on both sides of the cut that CUT has."""
@@ -163,12 +235,30 @@ class Narrow(unittest.TestCase):
         for width, told in ((42, ["- ready, . sleeping, # waiting for a mutex"]), (41, ["- ready, . sleeping,", "  # waiting for a mutex"])):
             self.assertEqual(legend(seen(spans, 4), width), ["priority: A 7", *told])
 
+    def test_an_item_that_has_just_room(self) -> None:
+        """`e an error is returned` has 22 letters, two stand before it and a comma behind it."""
+        marks = [Mark(1, MarkKind.ERROR, "", 0), Mark(2, MarkKind.LATE, "", 0)]
+        self.assertEqual(legend(seen([], 4, marks), 25)[1:], ["marks:", "  e an error is returned,", "  L a deadline is missed"])
+
+    def test_a_list_that_has_just_room(self) -> None:
+        """`9 ` and 20 letters, a comma behind them, and before them the tick in two more columns, or four blanks."""
+        facts = "".join(f"3 list {9 - at} {letter * 20}\n" for at, letter in enumerate("nop"))
+        lists = draw(timeline_of_text(f"0 idle\n{facts}9 end\n"), 28, lists=True).splitlines()
+        self.assertEqual(lists[-3:], [f"  3: 9 {'n' * 20},", f"    8 {'o' * 20},", f"    7 {'p' * 20}"])
+
+    def test_a_name_with_hyphens_is_one_word(self) -> None:
+        timeline = seen([], 4)
+        timeline.title = "a run of one-two-three"
+        self.assertEqual(draw(timeline, 25).splitlines()[:2], ["a run of one-two-three:", "  ticks 0 to 4, a column"])
+        timeline.title = "a run of it: one-two-three"
+        self.assertEqual(draw(timeline, 25).splitlines()[:2], ["a run of it:", "  one-two-three: ticks 0"])
+
     def test_what_is_longer_than_a_line_is_told_on_several(self) -> None:
         timeline = seen([Span(0, 50, RUN, 7)], 50)
         timeline.title = "a_name_of_thirty_five_letters_in_all"
         self.assertEqual(draw(timeline, 25).splitlines(), [
             "a_name_of_thirty_five_let", "  ters_in_all: ticks 0 to", "  50, a column is 5", "  ticks; idle for 0", "tick 0    25", "     |....|.....",
-            "a    AAAAAAAAAA", "", "priority: A 7", "a small letter: it runs", "  in a part of the column"])
+            "a    AAAAAAAAAA", "", "priority: A 7", "a small letter: it runs", "  in a part of the", "  column; another sign:", "  in a part of it at", "  least"])
 
     def test_each_line_of_the_legend(self) -> None:
         threads = [ThreadLine(name, [Span(at, at + 1, RUN, at + 1)], marks=[Mark(at, kind, "", 0)])
@@ -177,8 +267,14 @@ class Narrow(unittest.TestCase):
         self.assertEqual(legend(timeline, 26), [
             "priority: A 4, B 3, C 2,", "  D 1", "owners: 1 one, 2 two,", "  3 three, 4 four", "marks: > start, x exit,", "  e an error is returned"])
 
+    def test_the_axis_has_twenty_columns(self) -> None:
+        """At least, beside names of four letters and a space; what is not asked for is 100 in all."""
+        for width, ticks in ((1, 19), (25, 19), (26, 20), (None, 94)):
+            for more, each in ((0, "one tick"), (1, "2 ticks")):
+                told = " ".join(draw(seen([], ticks + more), width).split())
+                self.assertIn(f"a column is {each};", told, (width, ticks + more))
+
     def test_no_line_is_wider_than_it_is_asked_for(self) -> None:
-        """The axis has twenty columns at least, beside names of four letters and a space."""
         spans = [Span(at, at + 1, WAIT, kind=kind) for at, kind in enumerate(KINDS)]
         marks = [Mark(at, kind, "", 0) for at, kind in enumerate(MarkKind)]
         for width in range(1, 120):
