@@ -43,7 +43,7 @@ def draw_mutex(out: Writer, mutex: Owned, axis: Axis, y: float) -> None:
 
 
 def _draw_names(out: Writer, mutex: Owned, axis: Axis, y: float) -> None:
-    """The name of each owner in its bars; where none of those that touch has room for it, across or beside them."""
+    """The name of each owner in its bars; where none of those that touch has room for it, across or beside them, or from them on."""
     owned: list[list[tuple[int, int, str, int]]] = []
     for bar in mutex.bars:
         if owned and owned[-1][-1][1:3] == (bar[0], bar[2]):
@@ -66,6 +66,9 @@ def _draw_names(out: Writer, mutex: Owned, axis: Axis, y: float) -> None:
             right += wide + 3
         elif not places and left - free >= wide + 3:
             out.text(left - 3, y + BAR - 3, owner, size=NAME, anchor="end", fill=INK)
+        elif not places and until - left >= wide + 3:
+            out.text(left + 3, y + BAR - 3, owner, size=NAME, fill=INK)
+            right = left + 3 + wide
         free = max(free, right)
 
 

@@ -41,7 +41,8 @@ def _draw_span(out: Writer, name: str, span: Span, axis: Axis, colours: Colours,
             if span.high is False:
                 out.rect(left, bar, wide, high, fill="url(#low)", pointer_events="none", class_="low")
             label = f"{span.priority} {span.frame}".strip()
-            _label(out, [label, str(span.priority)], left, wide, bar + high * 0.74, max(LEAST_RUN, text * 0.85), ink)
+            halo = colour if span.high is False else ""
+            _label(out, [label, str(span.priority)], left, wide, bar + high * 0.74, max(LEAST_RUN, text * 0.85), ink, halo)
             _draw_frame(out, span, left, bar, wide)
         case State.READY:
             out.rect(left, bar + high * 0.2, wide, high * 0.6, title=title, fill="#ffffff", stroke=FAINT, stroke_width="0.8", class_="ready")
@@ -65,11 +66,11 @@ def _draw_frame(out: Writer, span: Span, left: float, top: float, wide: float) -
         out.rect(left, top, wide, 3.6, fill=CLEANUP if span.cleanup else HANDLER, class_="cleanup" if span.cleanup else "handler")
 
 
-def _label(out: Writer, texts: list[str], left: float, wide: float, y: float, size: float, fill: str) -> None:
+def _label(out: Writer, texts: list[str], left: float, wide: float, y: float, size: float, fill: str, halo: str = "") -> None:
     """The longest text that has room; a number needs less beside it than a name."""
     for text in texts:
         if text and wide >= wide_of(text, size) + (1 if text.isdecimal() else 3):
-            out.text(left + wide / 2, y, text, size=size, anchor="middle", fill=fill)
+            out.text(left + wide / 2, y, text, size=size, anchor="middle", fill=fill, halo=halo)
             return
 
 

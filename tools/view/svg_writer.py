@@ -52,11 +52,13 @@ class Writer:
         self._element("path", f'd="{data}"', title, style)
 
     def text(self, x: float, y: float, text: str, size: float = 11, anchor: str = "start", fill: str = INK,
-             weight: str = "normal", title: str = "") -> None:
+             weight: str = "normal", title: str = "", halo: str = "") -> None:
+        """Letters, with a halo of a colour about them where they stand on a pattern."""
         bold = "" if weight == "normal" else f' font-weight="{weight}"'
         where = "" if anchor == "start" else f' text-anchor="{anchor}"'
+        about = f' stroke="{halo}" stroke-width="3.5" stroke-linejoin="round" paint-order="stroke"' if halo else ""
         inside = f"<title>{escape(title)}</title>" if title else ""
-        self._parts.append(f'<text x="{short(x)}" y="{short(y)}" font-size="{short(size)}"{where}{bold} '
+        self._parts.append(f'<text x="{short(x)}" y="{short(y)}" font-size="{short(size)}"{where}{bold}{about} '
                            f'fill="{fill}">{inside}{escape(text)}</text>\n')
 
     def _element(self, tag: str, place: str, title: str, style: dict[str, str]) -> None:

@@ -22,7 +22,7 @@ function drawOwners(mutex, y) {
   }
   nameOwners(mutex.bars, y + sizes.object - 9);
 }
-// The name of each owner in its bars; where none of those that touch has room for it, across them or behind them.
+// The name of each owner in its bars; where none of those that touch has room for it, across them, behind them or from them on.
 function nameOwners(bars, y) {
   for (let i = firstFrom(bars); i < bars.length && xOf(places[bars[i][0]]) <= width;) {
     const owner = bars[i][2];
@@ -31,7 +31,8 @@ function nameOwners(bars, y) {
     do named = label([owner], xOf(places[bars[next][0]]), xOf(places[bars[next][1]]), y, LEAST_TEXT, look.ink) || named;
     while (++next < bars.length && bars[next][2] === owner && bars[next][0] === bars[next - 1][1]);
     const end = xOf(places[bars[next - 1][1]]), until = next < bars.length ? Math.min(width, xOf(places[bars[next][0]])) : width;
-    if (!named && !label([owner], start, end, y, LEAST_TEXT, look.ink) && end >= gutter && until - end > owner.length * LEAST_TEXT * 0.62 + 6) write(owner, end + 3, y, LEAST_TEXT, look.ink);
+    const wide = owner.length * LEAST_TEXT * 0.62 + 6, from = until - end > wide ? end : Math.max(gutter, start);
+    if (!named && !label([owner], start, end, y, LEAST_TEXT, look.ink) && end >= gutter && until - from > wide) write(owner, from + 3, y, LEAST_TEXT, look.ink);
     i = next;
   }
 }

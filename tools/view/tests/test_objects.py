@@ -43,10 +43,14 @@ class Mutexes(unittest.TestCase):
         self.assertEqual(texts(root), [("the mutex mm", 8), ("b", 130), ("b", 170), ("a", 260)])
 
     def test_names_that_have_no_room_in_a_bar(self) -> None:
-        """12 letters are some 67 wide: across both bars of 40 and 40, and beside one of 20, behind it or, where others follow, before it."""
+        """12 letters are some 67 wide: across both bars of 40 and 40, and beside one of 20, behind it or, where others follow, before it.
+
+        Where it has room beside none of them it begins in its bar and ends behind it, before the next bar.
+        """
         wide, name = Axis([0, 40], 100, 400, 34, 6), "bbbbbbbbbbbb"
         for bars, places in (([(1, 5, name, 0), (5, 9, name, 1)], [(name, 150)]), ([(1, 3, name, 0)], [(name, 133)]),
-                             ([(20, 22, name, 0), (23, 33, "a", 0)], [(name, 297), ("a", 380)])):
+                             ([(20, 22, name, 0), (23, 33, "a", 0)], [(name, 297), ("a", 380)]),
+                             ([(1, 5, name, 0), (9, 19, "a", 0)], [(name, 113), ("a", 240)]), ([(1, 5, name, 0), (8, 18, "a", 0)], [("a", 230)])):
             out = Writer()
             draw_mutex(out, Owned("m", bars), wide, 50)
             self.assertEqual(texts(read(out))[1:], places)
@@ -73,6 +77,9 @@ class Stretches(unittest.TestCase):
         self.assertEqual((rects(root, "low"), rects(root, "ready"), rects(root, "wait")), ([(200, 50, 50, 20)], [(250, 54, 100, 12)], [(350, 54, 150, 12)]))
         self.assertEqual(rects(root, "handler"), [(100, 50, 100, 3.6)])
         self.assertEqual(sorted(texts(root)), [("3", 225), ("7 h", 150), ("mutex m", 425), ("ready at 3", 300)])
+        # The number on the stripes of the low priority is set off from them in the colour of the bar.
+        self.assertEqual({text.text: (text.get("stroke"), text.get("paint-order")) for text in root.iter(f"{SVG}text")},
+                         {"3": ("#0000aa", "stroke"), "7 h": (None, None), "mutex m": (None, None), "ready at 3": (None, None)})
 
     def test_shares_of_columns(self) -> None:
         """Four columns of 10 ticks, each 3 wide."""

@@ -66,8 +66,8 @@ class Page(unittest.TestCase):
         horizon = int((WORKED / f"{name}.horizon").read_text())
         self.open(drawer("html")(timeline_of(read_trace(detail_of(script, horizon).splitlines(keepends=True)))))
 
-    def does(self, script: str) -> object:
-        return self.driver.execute_script(f"return {script}")
+    def does(self, script: str, *words: object) -> object:
+        return self.driver.execute_script(f"return {script}", *words)
 
     def shot(self, name: str) -> None:
         if "PSE52_SHOTS" in os.environ:
@@ -281,6 +281,15 @@ class Page(unittest.TestCase):
         self.shot("dense")
         self.does('(showAll(), zoom(200, gutter + 300))')
         self.assertFalse(self.does("isDense(data.threads[0])"))
+
+    def test_a_name_that_has_no_room_in_its_bar(self) -> None:
+        """12 letters of 5.58 and 6 need 73: behind a bar of 40, or from its beginning on, before the next bar at 120, 100 and 72."""
+        self.detail(CONTROLLER)
+        for following, where in ((120, [43]), (100, [3]), (72, [])):
+            names = self.does("""((next) => { const said = [], plain = write; write = (text, x) => said.push([text, x - gutter]);
+                scale = 1; left = 0; places = [0, 40, next, next + 100]; nameOwners([[0, 1, "bbbbbbbbbbbb", 0], [2, 3, "a", 0]], 50);
+                write = plain; return said; })(arguments[0])""", following)
+            self.assertEqual(names, [*(["bbbbbbbbbbbb", x] for x in where), ["a", following + 50]])
 
     def test_a_mutex_of_a_long_run(self) -> None:
         """It is owned for 3 of 10 ticks, and so high is its row coloured."""
