@@ -27,17 +27,17 @@ TOLD = frozenset(("list", "mask", "cancelability", "cleanups", "pending", "mutex
 
 
 class Points:
-    """The instants of the run and the edges of cuts, each with its number and its place on the axis."""
+    """The instants of the run, those at which only a fact changes among them, and the edges of cuts, each with its number and its place."""
 
     def __init__(self, timeline: Timeline) -> None:
-        parts = parts_of(timeline.instants, AXIS_WIDTH, CUT_PLACES, LEGIBLE)
+        told = {fact.time for fact in timeline.trace.facts if timeline.start < fact.time < timeline.end}
+        instants = sorted(told.union(timeline.instants))
+        parts = parts_of(instants, AXIS_WIDTH, CUT_PLACES, LEGIBLE)
         kept = sum(end - start for start, end, cut in parts if not cut)
         cut_wide = kept * CUT_PLACES / AXIS_WIDTH
         starts = {start for start, _, cut in parts if cut}
         edges = {edge for start, end, cut in parts if cut for edge in (start, end)}
-        told = {fact.time for fact in timeline.trace.facts if timeline.start < fact.time < timeline.end}
-        told = {time for time in told if not any(start < time < end for start, end, cut in parts if cut)}
-        self.ticks = sorted(set(timeline.instants) | edges | told)
+        self.ticks = sorted(edges.union(instants))
         self.number = {tick: number for number, tick in enumerate(self.ticks)}
         self.places = [0.0]
         for before, after in zip(self.ticks, self.ticks[1:]):

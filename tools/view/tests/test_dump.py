@@ -16,6 +16,7 @@ from view.window import window
 from .details import detail_of
 from .worked import all_worked, timeline, timeline_of_text
 
+OBJECTS = b"sem s 2\nqueue q 1 8\nthread a fifo 5 at 0\nsem_wait s\nmq_send q 8 0 7\nmq_receive q\nend\n"
 # b locks m in its first tick; a begins at 4, waits for m from 5 on and is given it at 9, gives it back at 12, and ends at 13; b ends at 19.
 MUTEX = b"mutex m none\nthread a fifo 9 at 4\nlock m\nrun 2\nunlock m\nend\nthread b fifo 5 at 0\nlock m\nrun 6\nunlock m\nrun 5\nend\n"
 CHANGES = {
@@ -72,6 +73,7 @@ class Reader:
             self.need(words[0] == "module" and len(words) == 2, words)
         elif word == "$var":
             kind, size, code, name = words
+            self.need(all("!" <= letter <= "~" for letter in code), words)
             self.need(kind in ("integer", "string") and int(size) > 0 and code not in self.variables, words)
             self.variables[code] = kind, int(size), name
 
@@ -114,6 +116,7 @@ class Dump(unittest.TestCase):
         self.assertEqual(dump.changes[6], {"processor": "b", "a.state": "waiting_mutex_m", "a.priority": 9, "b.state": "running", "b.priority": 5, "m.owner": "b"})
         self.assertEqual({time: changes for time, changes in dump.changes.items() if time > 6}, {time: CHANGES[time] for time in (9, 12, 13)})
         self.assertEqual(dump.last, 15)
+        self.assertEqual(Reader(drawer("vcd")(window(mutex(), 6, 12, None))).changes[12], {"m.owner": "free"})
         late = Reader(drawer("vcd")(window(mutex(), 20, 25, None)))
         self.assertEqual(late.changes, {20: {"processor": "idle", "a.state": "ended", "a.priority": 0, "b.state": "ended", "b.priority": 0, "m.owner": "free"}})
 
@@ -133,6 +136,23 @@ class Dump(unittest.TestCase):
             1: {"processor": "s", "s.state": "running_h", "s.priority": 7, "s.capacity": 4}, 2: {"s.capacity": 3},
             3: {"processor": "idle", "s.state": "ready", "s.capacity": 2}, 4: {"s.state": "waiting"}, 6: {"s.state": "not_running"}})
         self.assertIn(("integer", 64, "s.capacity"), dump.variables.values())
+
+    def test_only_what_changes_is_written(self) -> None:
+        """It runs at two priorities, one behind the other, and that is one state."""
+        thread = ThreadLine("a", [Span(0, 3, State.RUNNING, 7), Span(3, 5, State.RUNNING, 9)], runs=[(0, 5)])
+        dump = Reader(drawer("vcd")(Timeline([thread], 5, [], None, True, Trace([], []))))
+        self.assertEqual(dump.changes, {0: {"processor": "a", "a.state": "running", "a.priority": 7}, 3: {"a.priority": 9}})
+
+    def test_a_run_of_no_tick(self) -> None:
+        self.assertEqual(Reader(drawer("vcd")(timeline_of_text("0 start a\n0 end\n"))).changes, {0: {"processor": "idle", "a.state": "dormant", "a.priority": 0}})
+
+    def test_semaphores_and_queues(self) -> None:
+        """The semaphore has 2, and 1 from the end of the tick from 0 on; a message stands in the queue from 2 to 3."""
+        dump = Reader(drawer("vcd")(timeline_of(read_trace(detail_of(OBJECTS, 9).splitlines(keepends=True)))))
+        self.assertEqual([(kind, size, name) for kind, size, name in dump.variables.values() if name in ("s.value", "q.messages")],
+                         [("integer", 16, "s.value"), ("integer", 8, "q.messages")])
+        for name, changes in (("s.value", {0: 2, 1: 1}), ("q.messages", {0: 0, 2: 1, 3: 0})):
+            self.assertEqual({time: here[name] for time, here in dump.changes.items() if name in here}, changes)
 
     def test_more_variables_than_bytes(self) -> None:
         """94 bytes have a picture; of 8,930 variables each has one or two of them."""
@@ -192,8 +212,7 @@ class Events(unittest.TestCase):
 
     def test_counters(self) -> None:
         """A semaphore of 2, waited for in the tick from 0, and a queue that has a message from 2 to 3."""
-        script = b"sem s 2\nqueue q 1 8\nthread a fifo 5 at 0\nsem_wait s\nmq_send q 8 0 7\nmq_receive q\nend\n"
-        events = self.events(timeline_of(read_trace(detail_of(script, 9).splitlines(keepends=True))))
+        events = self.events(timeline_of(read_trace(detail_of(OBJECTS, 9).splitlines(keepends=True))))
         told = [(e["name"], int(e["ts"] * 1000), e["args"]) for e in events if e["ph"] == "C"]
         self.assertEqual([event for event in told if event[0] == "semaphore s"], [("semaphore s", 0, {"value": 2}), ("semaphore s", 1, {"value": 1})])
         self.assertEqual([event for event in told if event[0] == "queue q"][-2:], [("queue q", 2, {"messages": 1}), ("queue q", 3, {"messages": 0})])

@@ -150,6 +150,7 @@ class Legend(unittest.TestCase):
             text = next(text for text in root.iter(f"{SVG}text") if text.text == words)
             for shape in icon(root, words):
                 self.assertEqual(float(shape.get("x", shape.get("x1"))), float(text.get("x")) - (14 if words == "3" else 24), words)
+                self.assertEqual(float(shape.get("width", 0)) or float(shape.get("x2")) - float(shape.get("x1")), 11 if words == "3" else 20, words)
                 top = float(shape.get("y", shape.get("y1"))) - float(text.get("y"))
                 self.assertTrue(-10 <= top <= 0 and top + float(shape.get("height", 0)) <= 1, (words, shape))
         text = next(text for text in root.iter(f"{SVG}text") if text.text == "exit")

@@ -76,7 +76,7 @@ class OfATrace(unittest.TestCase):
         spans = [Span(0, 1, State.RUNNING, 7, high=True), Span(1, 2, State.RUNNING, 2, high=False, frame="h"), Span(2, 3, State.READY, 7, frame="u", cleanup=True),
                  Span(3, 4, State.WAITING, call="nanosleep", kind="sleep", until=10**17), Span(4, 5, State.OFF)]
         thread = ThreadLine("s", spans, marks=[Mark(2, MarkKind.RETURN, "lock", 0), Mark(3, MarkKind.ERROR, "EAGAIN", 0)], plans=[
-            Planned(1, 3, 4, 5), Planned(2, 1, 99), Planned(3, 1, 4), Planned(-2, 1, 4)], capacity=[Capacity(0, 2, 10**18, True), Capacity(2, 5, 3, False)])
+            Planned(1, 3, 4, 5), Planned(2, 1, 99), Planned(3, 1, 4, 98), Planned(4, 1, 99, 2), Planned(-2, 1, 4)], capacity=[Capacity(0, 2, 10**18, True), Capacity(2, 5, 3, False)])
         thread.marks += [Mark(time, MarkKind.RELEASE, "", 0, "job") for time in range(6)]
         told = data_of(Timeline([thread], 5, [], None, True, Trace([], [])))
         self.assertFalse(told["detail"])
@@ -84,7 +84,7 @@ class OfATrace(unittest.TestCase):
         self.assertEqual(said["spans"], [[0, 1, 0, 7, 1, "", "", "", "", "", 0], [1, 2, 0, 2, 0, "", "", "", "", "h", 0], [2, 3, 1, 7, -1, "", "", "", "", "u", 1],
                                          [3, 4, 2, 0, -1, "nanosleep", "sleep", "", str(10**17), "", 0], [4, 5, 3, 0, *PLAIN]])
         self.assertEqual(said["marks"][0], [3, "error", "EAGAIN"])
-        self.assertEqual(said["plans"], [[1, "3", "4", 4, 5], [2, "1", "99", -1, -1], [3, "1", "4", 4, -1]])
+        self.assertEqual(said["plans"], [[1, "3", "4", 4, 5], [2, "1", "99", -1, -1], [3, "1", "4", 4, -1], [4, "1", "99", -1, 2]])
         self.assertEqual((said["server"], said["ended"], said["capacity"]), (True, None, [[0, 2, str(10**18), True], [2, 5, "3", False]]))
 
     def test_what_is_cut(self) -> None:
@@ -96,6 +96,27 @@ class OfATrace(unittest.TestCase):
         self.assertEqual(told["ticks"][at + 1], "9999")
         self.assertAlmostEqual(told["places"][at + 1] - told["places"][at], 22 * 34 / 1400)
         self.assertEqual((told["places"][at], round(told["places"][-1] - told["places"][at + 1], 6)), (11, 11))
+
+    def test_when_it_is_cut(self) -> None:
+        """Gaps of one, and one of 100 in the end: of 1400 a tick is 6 wide where there are 233, and with one more it is less."""
+        for end, cuts in ((233, 0), (234, 1)):
+            lines = "0 start a\n0 dispatch a 5\n" + "".join(f"{time} return a yield 0 0\n" for time in range(1, end - 99)) + f"{end} end\n"
+            self.assertEqual(len(data_of(timeline_of_text(lines))["cuts"]), cuts)
+
+    def test_where_only_a_fact_changes(self) -> None:
+        """Nothing is cut there. Gaps of 3, 497, 500, 3, 997, 1, 2 and 7: the middle one is 3, the two longest are cut but for 3 at each side."""
+        lines = "0 start a\n0 dispatch a 5\n3 idle\n500 sem s 4\n1000 return a nanosleep 0 0\n1000 dispatch a 5\n1003 idle\n" \
+            "2000 return a nanosleep 0 0\n2000 dispatch a 5\n2001 sem s 5\n2003 exit a\n2003 idle\n2010 end\nthread a ticks 9\n"
+        told = data_of(timeline_of_text(lines))
+        self.assertEqual(told["ticks"], list(map(str, (0, 3, 500, 503, 997, 1000, 1003, 1006, 1997, 2000, 2001, 2003, 2010))))
+        self.assertEqual((told["cuts"], told["facts"]), ([3, 7], {"sem s": [[2, "4"], [10, "5"]]}))
+
+    def test_a_timer_whose_signal_nobody_takes(self) -> None:
+        """It expires at 102 and each 100 ticks from there on, which no event tells."""
+        script = b"timer beat rt1 0\nthread a fifo 5 at 0\nsigmask block rt1\ntimer_settime beat rel 100 100\nrun 5000\nend\n"
+        told = data_of(timeline_of(read_trace(detail_of(script, 1000).splitlines(keepends=True))))
+        changes = [(told["ticks"][point], said.split()[0]) for point, said in told["facts"]["timer beat"]]
+        self.assertEqual(changes, [(str(time), str(time + 100)) for time in range(2, 1000, 100)])
 
     def test_what_killed_it(self) -> None:
         text = "0 start a\n0 dispatch a 5\n5 return a kill 0 0\n5 killed rt1\n5 end\nthread a ticks 5\n"

@@ -20,7 +20,7 @@ SVG = "{http://www.w3.org/2000/svg}"
 
 
 def seen(threads: list[ThreadLine], end: int = 10, **more) -> Timeline:
-    return Timeline(threads, end, more.pop("idle", []), more.pop("killed", None), True, Trace([], []), **more)
+    return Timeline(threads, end, more.pop("idle", []), more.pop("killed", None), True, more.pop("trace", Trace([], [])), **more)
 
 
 def runs(name: str, **more) -> ThreadLine:
@@ -91,7 +91,27 @@ class Places(unittest.TestCase):
         self.assertEqual(line.find(f"{SVG}title").text, "5 killed rt1")
 
 
+    def test_a_cut_has_torn_edges_over_all_rows(self) -> None:
+        """The axis from 60 on has 1406 for 22 ticks and the 34 of the cut: 11 of them are 686 wide. The edges stand 6 within the cut."""
+        marks = [Mark(time, MarkKind.RELEASE, "", -1, "a job") for time in (*range(11), *range(1000, 1011))]
+        root = drawn(seen([runs("a", marks=marks)], 1010))
+        self.assertEqual([path.get("d").split("L")[0] for path in root.iter(f"{SVG}path") if path.get("stroke") == "#b4a88c"], ["M752.0,66.0", "M774.0,66.0"])
+
+    def test_a_label_at_the_end_of_the_axis(self) -> None:
+        """There are 34 behind the axis: three letters have room behind their mark, seven have not, and stand before it."""
+        for label, anchor in (("rt1", None), ("rt12345", "end")):
+            root = drawn(seen([runs("a", marks=[Mark(10, MarkKind.DELIVER, label, 0)])], trace=Trace([], ["10 deliver a"])))
+            self.assertEqual([text.get("text-anchor") for text in root.iter(f"{SVG}text") if text.text == label], [anchor])
+
+
 class Width(unittest.TestCase):
+    def test_how_wide_a_tick_is_at_least(self) -> None:
+        """1406 are behind names of one letter and before the margin: 234 ticks are 6 wide, and 235 are not."""
+        for end, cuts in ((234, 0), (235, 2)):
+            marks = [Mark(time, MarkKind.RELEASE, "", -1, "a job") for time in range(end - 99)]
+            root = drawn(seen([runs("a", marks=marks)], end))
+            self.assertEqual(sum(path.get("stroke") == "#b4a88c" for path in root.iter(f"{SVG}path")), cuts)
+
     def test_ticks_of_a_good_size(self) -> None:
         """22 for a tick, at least 560 for all; the whole picture has at most 1500, of which the names and 34 behind the axis are a part."""
         for ticks, wide in ((1, 560), (25, 560), (26, 572), (60, 1320), (63, 1386), (64, 1406), (65, 1406), (10**18, 1406)):
